@@ -1,0 +1,2 @@
+-- Sets of states.
+pub mod Sets

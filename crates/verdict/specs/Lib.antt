@@ -1,0 +1,2 @@
+-- What a test says, and tests made in order.
+pub mod Tests
