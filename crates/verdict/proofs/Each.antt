@@ -11,7 +11,7 @@ use lib.Seq.{drop-cons, drop-length}
 use Rattle.verdict.specs.declared.Verdict.{Verdict}
 use Rattle.verdict.specs.declared.Verdict.the-variants.{Fine, Against}
 use Rattle.verdict.specs.Tests.{inOrder, each}
-use Rattle.verdict.proofs.Ordered.{order-head, order-tail}
+use Rattle.verdict.proofs.Ordered.{order-fine}
 
 -- the first i values have nothing against them: the rest decides
 pub record Passed (test : ℕ → Verdict) (values : List ℕ) (i : ℕ) : Type 0 where
@@ -43,8 +43,8 @@ each-fine test values = (to values, fro values)
   where
     to : (xs : List ℕ) → each test xs ≡ Fine → (i : ℕ) → i < length xs → test (getD xs i 0) ≡ Fine
     to [] e i l = absurd (not-suc-le-zero l)
-    to (x ∷ xs) e zero l = order-head (test x) (map test xs) e
-    to (x ∷ xs) e (suc i) l = to xs (order-tail (test x) (map test xs) e) i (le-of-suc-le-suc l)
+    to (x ∷ xs) e zero l = order-fine (test x ∷ map test xs) .0 e .0
+    to (x ∷ xs) e (suc i) l = to xs (order-fine (map test xs) .1 (order-fine (test x ∷ map test xs) .0 e .1)) i (le-of-suc-le-suc l)
 
     fro : (xs : List ℕ) → ((i : ℕ) → i < length xs → test (getD xs i 0) ≡ Fine) → each test xs ≡ Fine
     fro [] f = refl
