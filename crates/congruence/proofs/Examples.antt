@@ -42,4 +42,9 @@ one-closes-to-seven =
     }
 
 pub four-closes-to-seven : Closes (Listed lefts rights) 4 7
-four-closes-to-seven = ?
+four-closes-to-seven =
+    record {
+      within = record { joins = refl };
+      congruent = on (union (same 4) (back two-four)) (union (same 6) (back one-two));
+      still = seven-still;
+    }
