@@ -1,0 +1,99 @@
+-- `events::put_name` puts the row of the table that is the name, or E and then the letter's decimal.
+use mathlib.Core.Path.{_≡_, sym, ap, _∙_}
+use Prim.Native.Nat.{ℕ, _+_, _≤_}
+use native.Mathlib.Omega.{arith}
+use borrow.Author.Needs.{needs}
+use lib.ListN.{length}
+use Rattle.text.specs.Text.{decimal}
+use Rattle.text.proofs.Putting.{put-as, put-then}
+use Rattle.events.specs.Events.{eventName}
+use Rattle.events.proofs.Table.{row-ends, row-is}
+use Rattle.events.proofs.Names.{name-high}
+use Rattle.events.proofs.put_name.Statement.{statement}
+use Rattle.events.proofs.put_name.Tie as tie
+
+high-length : (a : ℕ) → 12 ≤ a → length (eventName a) ≡ 1 + length (decimal a)
+high-length a h = ap length (name-high a h) ∙ omega arith
+
+-- the places: at a letter of the table, and at any other with its E put
+abbrev listed : tie.After-table → tie.Then1
+listed c = c .before .before
+
+abbrev other : tie.After-put-byte → tie.Else1
+other c = c .before .before
+
+abbrev begun : tie.After-put-decimal-arg → tie.After-put-byte
+begun c = c .before .before .before
+
+mul-start : tie.Need-mul-start
+mul-start c = search needs
+
+mul-end : tie.Need-mul-end
+mul-end c = search needs
+
+array-read-end : tie.Need-array-read-end
+array-read-end c = search needs
+
+add-end : tie.Need-add-end
+add-end c = omega (arith, row-ends (c .before .before .args .letter) (c .if1 .taken))
+
+sub-put-bytes : tie.Need-sub-put-bytes
+sub-put-bytes c = search needs
+
+part-put-bytes-start : tie.Need-part-put-bytes-start
+part-put-bytes-start c = search needs
+
+part-put-bytes-end : tie.Need-part-put-bytes-end
+part-put-bytes-end c = row-ends (listed c .before .before .args .letter) (listed c .if1 .taken)
+
+put-bytes-requires : tie.Need-put-bytes-requires
+put-bytes-requires c κs =
+    let place = listed (c .before) in
+    let start = place .before .before in
+    rw (row-is (start .args .letter) (place .if1 .taken)) (start .pre)
+
+same-length : tie.Need-same-length
+same-length c = search needs
+
+returns : tie.Need-returns
+returns c =
+    let put = c .before .before in
+    let place = listed (put .before .before) in
+    put-as (put .put-bytes .ensures) (row-is (place .before .before .args .letter) (place .if1 .taken))
+
+put-byte-requires : tie.Need-put-byte-requires
+put-byte-requires c κs = omega (arith, high-length (c .before .before .before .args .letter) (c .before .if1 .left))
+
+put-decimal-requires : tie.Need-put-decimal-requires
+put-decimal-requires c κs =
+    let place = other (begun c) in
+    omega (arith, high-length (place .before .before .args .letter) (place .if1 .left))
+
+same-length-2 : tie.Need-same-length-2
+same-length-2 c = search needs
+
+returns-2 : tie.Need-returns-2
+returns-2 c =
+    let number = c .before .before in
+    let letter-e = begun (number .before) in
+    let place = other letter-e in
+    put-as (put-then (letter-e .put-byte .ensures) (number .put-decimal .ensures)) (sym (name-high (place .before .before .args .letter) (place .if1 .left)))
+
+pub put-name-spec : {M : Type 1} → statement M
+put-name-spec =
+    tie.close
+    (tie.spec
+    mul-start
+    mul-end
+    array-read-end
+    add-end
+    sub-put-bytes
+    part-put-bytes-start
+    part-put-bytes-end
+    put-bytes-requires
+    same-length
+    returns
+    put-byte-requires
+    put-decimal-requires
+    same-length-2
+    returns-2)
