@@ -9,7 +9,7 @@ use Rattle.text.specs.Text.{word, digits, decimal}
 use Rattle.events.specs.Events.{names, eventName}
 use Rattle.events.proofs.Computed.{both, every, every-at, same, same-equal}
 
--- NAMES and LENGTHS of the code
+-- NAMES and LENGTHS of the code, byte for byte: where they differ, `put_name` has no proof
 abbrev table : List ℕ
 table = word "READ.....STABLE...DROP.....DRYHOP...CRASH....WARM.....CAP......VENT.....TRANSFER.SAMPLE...CLOCKBACKCLOCKON.."
 

@@ -1,10 +1,10 @@
 -- What people read, as bytes, and how bytes stand in a buffer. The laws that say what each word means stand in proofs/.
 --   word "SAME"   the bytes of a word, one for each ASCII character
---   decimal v     the 64-bit number v in decimal: its digits read back as v (`decimal-reads`), each byte is a digit (`decimal-digits`),
---                 there are 1 to 20 of them (`decimal-some`, `decimal-short`), and none but 0 begins with a zero (`decimal-leads`)
+--   decimal v     the 64-bit number v in decimal: its digits read back as v (`decimal-reads`, `decimal-injective`), each byte is a digit
+--                 (`decimal-digits`), there are 1 to 20 of them (`decimal-some`, `decimal-short`), and none but 0 begins with a zero (`decimal-leads`)
 --   spaced ws     each word with a space in front
 --   joined ws     the words with single spaces between them
---   line ws       the words with single spaces between them, and a newline
+--   line ws       the words with single spaces between them, and a newline (`joined-one`, `joined-more`, `line-of-three`)
 --   Put before at bytes next after
 --                 the bytes stand in the list from the place at on, and next is the place after them; all else is as it was
 --                 (`put-found`, `put-front`, `put-back`), and nothing is left open (`put-determined`)
@@ -25,11 +25,12 @@ word (c then s) = code c ∷ word s
 abbrev pub digit : ℕ → ℕ
 digit d = code "0" + d
 
--- the last m digits of v at most, the most significant first, with no zero in front
+-- the digits of v, the most significant first, with no zero in front; the last m of them where it has more
 unfoldable pub digits : ℕ → ℕ → List ℕ
 digits zero v = []
 digits (suc m) v = cond (ltb v 10) (digit v ∷ []) (digits m (v / 10) ++ (digit (v % 10) ∷ []))
 
+-- twenty digits hold every 64-bit number (`decimal-largest`)
 unfoldable pub decimal : ℕ → List ℕ
 decimal v = digits 20 v
 

@@ -1,16 +1,19 @@
 -- `events::put_name` puts the row of the table that is the name, or E and then the letter's decimal.
 use mathlib.Core.Path.{_≡_, sym, ap, _∙_}
-use Prim.Native.Nat.{ℕ, _+_, _≤_}
+use Prim.Native.Nat.{ℕ, _+_, _<_, _≤_}
 use native.Mathlib.Omega.{arith}
 use borrow.Author.Needs.{needs}
 use lib.ListN.{length}
 use Rattle.text.specs.Text.{decimal}
 use Rattle.text.proofs.Putting.{put-as, put-then}
 use Rattle.events.specs.Events.{eventName}
-use Rattle.events.proofs.Table.{row-ends, row-is}
+use Rattle.events.proofs.Table.{row, row-ends, row-is}
 use Rattle.events.proofs.Names.{name-high}
 use Rattle.events.proofs.put_name.Statement.{statement}
 use Rattle.events.proofs.put_name.Tie as tie
+
+row-room : (a at size : ℕ) → a < 12 → at + length (eventName a) ≤ size → at + length (row a) ≤ size
+row-room a at size h fits = rw (row-is a h) fits
 
 high-length : (a : ℕ) → 12 ≤ a → length (eventName a) ≡ 1 + length (decimal a)
 high-length a h = ap length (name-high a h) ∙ omega arith
@@ -25,6 +28,12 @@ other c = c .before .before
 abbrev begun : tie.After-put-decimal-arg → tie.After-put-byte
 begun c = c .before .before .before
 
+low : (c : tie.Then1) → c .before .before .args .letter < 12
+low c = omega (arith, c .if1 .taken)
+
+high : (c : tie.Else1) → 12 ≤ c .before .before .args .letter
+high c = omega (arith, c .if1 .left)
+
 mul-start : tie.Need-mul-start
 mul-start c = search needs
 
@@ -35,7 +44,7 @@ array-read-end : tie.Need-array-read-end
 array-read-end c = search needs
 
 add-end : tie.Need-add-end
-add-end c = omega (arith, row-ends (c .before .before .args .letter) (c .if1 .taken))
+add-end c = let h = row-ends (c .before .before .args .letter) (low c) in omega arith
 
 sub-put-bytes : tie.Need-sub-put-bytes
 sub-put-bytes c = search needs
@@ -44,13 +53,13 @@ part-put-bytes-start : tie.Need-part-put-bytes-start
 part-put-bytes-start c = search needs
 
 part-put-bytes-end : tie.Need-part-put-bytes-end
-part-put-bytes-end c = row-ends (listed c .before .before .args .letter) (listed c .if1 .taken)
+part-put-bytes-end c = row-ends (listed c .before .before .args .letter) (low (listed c))
 
 put-bytes-requires : tie.Need-put-bytes-requires
 put-bytes-requires c κs =
     let place = listed (c .before) in
     let start = place .before .before in
-    rw (row-is (start .args .letter) (place .if1 .taken)) (start .pre)
+    row-room (start .args .letter) (start .args .at) (length (start .args .out .now)) (low place) (start .pre)
 
 same-length : tie.Need-same-length
 same-length c = search needs
@@ -59,15 +68,15 @@ returns : tie.Need-returns
 returns c =
     let put = c .before .before in
     let place = listed (put .before .before) in
-    put-as (put .put-bytes .ensures) (row-is (place .before .before .args .letter) (place .if1 .taken))
+    put-as (put .put-bytes .ensures) (row-is (place .before .before .args .letter) (low place))
 
 put-byte-requires : tie.Need-put-byte-requires
-put-byte-requires c κs = omega (arith, high-length (c .before .before .before .args .letter) (c .before .if1 .left))
+put-byte-requires c κs = omega (arith, high-length (c .before .before .before .args .letter) (high (c .before)))
 
 put-decimal-requires : tie.Need-put-decimal-requires
 put-decimal-requires c κs =
     let place = other (begun c) in
-    omega (arith, high-length (place .before .before .args .letter) (place .if1 .left))
+    omega (arith, high-length (place .before .before .args .letter) (high place))
 
 same-length-2 : tie.Need-same-length-2
 same-length-2 c = search needs
@@ -77,7 +86,7 @@ returns-2 c =
     let number = c .before .before in
     let letter-e = begun (number .before) in
     let place = other letter-e in
-    put-as (put-then (letter-e .put-byte .ensures) (number .put-decimal .ensures)) (sym (name-high (place .before .before .args .letter) (place .if1 .left)))
+    put-as (put-then (letter-e .put-byte .ensures) (number .put-decimal .ensures)) (sym (name-high (place .before .before .args .letter) (high place)))
 
 pub put-name-spec : {M : Type 1} → statement M
 put-name-spec =
