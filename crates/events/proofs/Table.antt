@@ -1,43 +1,47 @@
--- The table of names: nine bytes to a row, of which the row's length says how many are the name. One test of all rows. Assumes nothing.
-use mathlib.Core.Path.{_≡_}
-use mathlib.Core.Bool.{Bool, _&&_}
+-- The two tables of the code, copied byte for byte, and a test of all rows of each: a length is its name's, and a row begins with its name. Assumes nothing.
+use mathlib.Core.Path.{_≡_, ap, _∙_}
+use mathlib.Core.Bool.{Bool}
 use mathlib.Core.List.{List, [], _∷_}
-use Prim.Native.Nat.{ℕ, _+_, _*_, _-_, _<_, _≤_}
-use lib.Dec.{T, leb, leb→le}
+use Prim.Native.Nat.{ℕ, _+_, _*_, _-_, _<_}
+use native.Mathlib.Omega.{arith}
+use lib.Dec.{T, eqb, eqb→eq}
 use lib.ListN.{length, take, drop, getD}
 use Rattle.text.specs.Text.{word, digits, decimal}
 use Rattle.events.specs.Events.{names, eventName}
-use Rattle.events.proofs.Computed.{both, every, every-at, same, same-equal}
+use Rattle.events.proofs.Computed.{every, every-at, same, same-equal}
 
--- NAMES and LENGTHS of the code, byte for byte: where they differ, `put_name` has no proof
-abbrev table : List ℕ
-table = word "READ.....STABLE...DROP.....DRYHOP...CRASH....WARM.....CAP......VENT.....TRANSFER.SAMPLE...CLOCKBACKCLOCKON.."
+-- ---- LENGTHS
 
 abbrev lengths : List ℕ
 lengths = 4 ∷ 6 ∷ 4 ∷ 6 ∷ 5 ∷ 4 ∷ 3 ∷ 4 ∷ 8 ∷ 6 ∷ 9 ∷ 7 ∷ []
 
-abbrev pub ending : ℕ → ℕ
-ending a = a * 9 + getD lengths a 0
+length-right : ℕ → Bool
+length-right a = eqb (getD lengths a 0) (length (eventName a))
 
--- the part of the table that is lent for a letter
-abbrev pub row : ℕ → List ℕ
-row a = take (ending a - a * 9) (drop (a * 9) table)
+lengths-right : T (every length-right 12)
+unfolding length-right eventName names decimal digits
+lengths-right = tt
 
-right : ℕ → Bool
-right a = leb (ending a) (length table) && same (row a) (eventName a)
+pub length-is : (a : ℕ) → a < 12 → getD lengths a 0 ≡ length (eventName a)
+unfolding length-right
+length-is a h = eqb→eq (getD lengths a 0) (length (eventName a)) (every-at length-right 12 lengths-right a h)
 
-rows : T (every right 12)
-unfolding right eventName names decimal digits
-rows = tt
+-- ---- NAMES, nine bytes to a row
 
-at : (a : ℕ) → a < 12 → (ending a ≤ length table) × (row a ≡ eventName a)
-unfolding right
-at a h =
-    let t = both (leb (ending a) (length table)) (same (row a) (eventName a)) (every-at right 12 rows a h) in
-    (leb→le (ending a) (length table) (t .0), same-equal (row a) (eventName a) (t .1))
+abbrev table : List ℕ
+table = word "READ.....STABLE...DROP.....DRYHOP...CRASH....WARM.....CAP......VENT.....TRANSFER.SAMPLE...CLOCKBACKCLOCKON.."
 
-pub row-ends : (a : ℕ) → a < 12 → ending a ≤ 108
-row-ends a h = at a h .0
+row-right : ℕ → Bool
+row-right a = same (take (length (eventName a)) (drop (a * 9) table)) (eventName a)
 
-pub row-is : (a : ℕ) → a < 12 → row a ≡ eventName a
-row-is a h = at a h .1
+rows-right : T (every row-right 12)
+unfolding row-right eventName names decimal digits
+rows-right = tt
+
+-- the part of the table from a row's start to the end of its name is the name
+pub row-is : (a n : ℕ) → a < 12 → n ≡ length (eventName a) → take (a * 9 + n - a * 9) (drop (a * 9) table) ≡ eventName a
+unfolding row-right
+row-is a n h e =
+    let size : a * 9 + n - a * 9 ≡ length (eventName a) = omega (arith, e) in
+    ap (λ (k : ℕ). take k (drop (a * 9) table)) size
+    ∙ same-equal (take (length (eventName a)) (drop (a * 9) table)) (eventName a) (every-at row-right 12 rows-right a h)

@@ -35,7 +35,7 @@ shared-slice-read-out : tie.Need-shared-slice-read-out Inv-loop μ-loop
 shared-slice-read-out c = omega arith
 
 slice-write-out : tie.Need-slice-write-out Inv-loop μ-loop
-slice-write-out c = omega (arith, has-room (c .before))
+slice-write-out c = omega (arith, has-room (c .before), left-length (c .before .before .loop .inv .1))
 
 add-place : tie.Need-add-place Inv-loop μ-loop
 add-place c = omega (arith, has-room (c .before), left-length (c .before .before .loop .inv .1))
