@@ -1,6 +1,6 @@
 -- One answer to each offer. Assumes nothing.
-use mathlib.Core.Path.{_≡_, refl, sym, ap, _∙_}
-use mathlib.Core.Logic.{_⊎_, _↔_, inl, inr, ⊎-elim}
+use mathlib.Core.Path.{_≡_, refl, ap}
+use mathlib.Core.Logic.{_⊎_, _↔_, inl, inr}
 use mathlib.Core.List.{List}
 use Prim.Native.Nat.{ℕ, _<_}
 use native.Mathlib.Omega.{arith}
@@ -53,6 +53,10 @@ valid-answered {o} v (refuses e) = absurd (never (offer-valid o .1 v) e)
 valid-answered v (not-started e f) = inr refl
 valid-answered v (started e h (all-hold p)) = inl refl
 valid-answered v (started e h (fails l p f)) = inr refl
+
+-- one that is refused is not valid
+pub refused-invalid : {o : Offer} {w : ℕ} → Checked o (Refused w) → ValidOffer o → ⊥
+refused-invalid {o} (refuses e) v = never (offer-valid o .1 v) e
 
 -- PROVED exactly where the offer is valid, the starting pair in order, and every pair holds
 pub proved-exactly : {o : Offer} {r : Answer} → Checked o r

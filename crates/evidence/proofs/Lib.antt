@@ -3,3 +3,4 @@ pub mod Validity
 pub mod Searching
 pub mod Meaning
 pub mod Determined
+pub mod Examples

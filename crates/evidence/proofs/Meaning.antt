@@ -1,10 +1,10 @@
 -- What the answers mean: PROVED that the languages are equal, whoever wrote the list; NOT-PROVED only what its place says. Assumes nothing.
-use mathlib.Core.Path.{_≡_, refl, sym, _∙_}
+use mathlib.Core.Path.{_≡_, refl}
 use mathlib.Core.Logic.{_↔_}
-use mathlib.Core.List.{List, []}
+use mathlib.Core.List.{List}
 use Prim.Native.Nat.{ℕ, _<_}
 use native.Mathlib.Omega.{arith}
-use lib.ListN.{length, getD}
+use lib.ListN.{length}
 use Rattle.pattern.specs.Pattern.{Pattern}
 use Rattle.pattern.specs.Language.{SameLanguage}
 use Rattle.congruence.specs.Congruence.{Congruent, Listed}

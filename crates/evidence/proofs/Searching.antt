@@ -1,5 +1,5 @@
--- What the three loops keep: the pairs looked at, the letters tried, the pairs that hold. Assumes nothing.
-use mathlib.Core.Path.{_≡_, refl}
+-- What the three loops of the check keep: the pairs looked at, the letters tried, the pairs that hold. Assumes nothing.
+use mathlib.Core.Path.{_≡_, refl, sym}
 use mathlib.Core.Bool.{Bool, true, false, not, Bool·beq}
 use mathlib.Core.List.{List, []}
 use Prim.Native.Nat.{ℕ, _+_, _≤_, _<_}
@@ -11,27 +11,30 @@ use Rattle.pattern.specs.Pattern.{Pattern}
 use Rattle.pattern.specs.Language.{next, accepts}
 use Rattle.congruence.specs.Congruence.{Congruent, Listed}
 use Rattle.evidence.specs.Evidence.{Starts, Holds, HoldsAt, HoldBelow, ByPairs}
-use Rattle.evidence.specs.Evidence.ByPairs.{all-hold, fails}
-use Rattle.evidence.specs.declared.Answer.the-variants.{Proved, NotProved}
+use Rattle.evidence.specs.Evidence.ByPairs.{all-hold}
+use Rattle.evidence.specs.declared.Answer.the-variants.{Proved}
 
 -- ---- flags
 
+true-false : true ≡ false → ⊥
+true-false e = let z : _≡_ {A = ℕ} 0 1 = cc in omega arith
+
 pub decided-yes : {A : Type 0} → A → Decides A true
-decided-yes h = record { sound = λ e. h; complete = λ e. absurd (let z : _≡_ {A = ℕ} 0 1 = cc in omega arith) }
+decided-yes h = record { sound = λ e. h; complete = λ e. absurd (true-false e) }
 
 pub decided-no : {A : Type 0} → (A → ⊥) → Decides A false
-decided-no f = record { sound = λ e. absurd (let z : _≡_ {A = ℕ} 0 1 = cc in omega arith); complete = λ e. f }
+decided-no f = record { sound = λ e. absurd (true-false (sym e)); complete = λ e. f }
 
 pub flags-differ : (p q : Bool) → not (Bool·beq p q) ≡ true → p ≡ q → ⊥
-flags-differ true true e d = let z : _≡_ {A = ℕ} 0 1 = cc in omega arith
-flags-differ true false e d = let z : _≡_ {A = ℕ} 0 1 = cc in omega arith
-flags-differ false true e d = let z : _≡_ {A = ℕ} 0 1 = cc in omega arith
-flags-differ false false e d = let z : _≡_ {A = ℕ} 0 1 = cc in omega arith
+flags-differ true true e d = true-false (sym e)
+flags-differ true false e d = true-false d
+flags-differ false true e d = true-false (sym d)
+flags-differ false false e d = true-false (sym e)
 
 pub flags-agree : (p q : Bool) → not (Bool·beq p q) ≡ false → p ≡ q
 flags-agree true true e = refl
 flags-agree true false e = e
-flags-agree false true e = cc
+flags-agree false true e = sym e
 flags-agree false false e = refl
 
 -- ---- the starting pair
@@ -56,7 +59,7 @@ module _ {lefts rights : List ℕ} {x y : ℕ} where
 -- the first i letters take the pair (a, b) to congruent pairs
 pub record Stepped (P : Pattern) (lefts rights : List ℕ) (a b i : ℕ) : Type 0 where
   pub bound : i ≤ P .letters
-  pub steps : (x : ℕ) → x < i → Congruent (Listed lefts rights) (next P a x) (next P b x)
+  pub steps : (letter : ℕ) → letter < i → Congruent (Listed lefts rights) (next P a letter) (next P b letter)
 
 module _ {P : Pattern} {lefts rights : List ℕ} {a b : ℕ} where
   pub stepped-none : Stepped P lefts rights a b 0
@@ -65,14 +68,14 @@ module _ {P : Pattern} {lefts rights : List ℕ} {a b : ℕ} where
   pub stepped-more : {i left right : ℕ} → i < P .letters → Stepped P lefts rights a b i → left ≡ next P a i → right ≡ next P b i
       → Congruent (Listed lefts rights) left right → Stepped P lefts rights a b (i + 1)
   stepped-more {i} l s p q h =
-      record { bound = omega arith; steps = below-more (λ x. Congruent (Listed lefts rights) (next P a x) (next P b x)) i (s .steps) (rw (← p, ← q) h) }
+      record { bound = omega arith; steps = below-more (λ letter. Congruent (Listed lefts rights) (next P a letter) (next P b letter)) i (s .steps) (rw (← p, ← q) h) }
 
   pub stepped-apart : {i left right : ℕ} → i < P .letters → left ≡ next P a i → right ≡ next P b i
       → (Congruent (Listed lefts rights) left right → ⊥) → Holds P lefts rights a b → ⊥
   stepped-apart {i} l p q f h = f (rw (p, q) (h .steps i l))
 
   pub stepped-all : {i : ℕ} → P .letters ≤ i → Stepped P lefts rights a b i → accepts P a [] ≡ accepts P b [] → Holds P lefts rights a b
-  stepped-all {i} l s e = record { agrees = e; steps = λ x h. s .steps x (omega arith) }
+  stepped-all {i} l s e = record { agrees = e; steps = λ letter h. s .steps letter (omega arith) }
 
 -- ---- all pairs
 

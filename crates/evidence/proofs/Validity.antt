@@ -1,9 +1,8 @@
 -- Nothing is against an offer exactly where it is valid. Assumes nothing.
 use mathlib.Core.Path.{_≡_, refl}
 use mathlib.Core.Logic.{_↔_}
-use mathlib.Core.Bool.{_&&_, and-eq-true-iff}
+use mathlib.Core.Bool.{and-eq-true-iff}
 use Prim.Native.Nat.{ℕ, _≤_}
-use lib.ListN.{length}
 use lib.Dec.{leb, eqb}
 use borrow.Author.Tests.{leb-true, le-leb, eqb-true, eq-eqb}
 use Rattle.verdict.specs.declared.Verdict.the-variants.{Fine}
@@ -28,11 +27,11 @@ offer-valid o = (to, fro)
         let (x, (y, (lefts, (rights, _)))) = order-fine _ .0 pairs in
         let (sized, tabled) = shape-fine (o .pattern) .0 shape in
         let (finals, rows) = masks-fine (o .pattern) .0 masks in
-        let (fit, even) = list-fine _ _ .0 list in
+        let (fit, match) = list-fine _ _ .0 list in
         record {
           pattern = record { sized = sized; tabled = tabled; finals-good = finals; rows-good = rows };
           pairs-fit = fit;
-          even = even;
+          sides-match = match;
           x-good = set-fine _ _ .0 x;
           y-good = set-fine _ _ .0 y;
           lefts-good = sets-fine _ _ .0 lefts;
@@ -45,7 +44,7 @@ offer-valid o = (to, fro)
         order-fine _ .1 (
           shape-fine (o .pattern) .1 (v .pattern .sized, v .pattern .tabled),
           (
-            list-fine _ _ .1 (v .pairs-fit, v .even),
+            list-fine _ _ .1 (v .pairs-fit, v .sides-match),
             (
               masks-fine (o .pattern) .1 (v .pattern .finals-good, v .pattern .rows-good),
               (pairs, tt),

@@ -1,10 +1,12 @@
 -- Evidence: somebody offers a list of pairs to show that X and Y have one language. Whoever wrote it, PROVED means that they have (`evidence-means-same`).
---   Offer        a pattern, X and Y, and the two sides of the list
---   Starts       (X, Y) itself is a listed pair, in that order
+--   Offer        what is offered: a pattern, X and Y, and the two sides of the list
+--   Starts       the starting pair is in order: (X, Y) itself is a listed pair, in that order
 --   Holds        a pair agrees on the empty sequence and has, for each letter, successors congruent by the list
---   HoldBelow i  pairs 0 to i - 1 hold
---   checkTest    what is refused: 10, 11, 16, 12, in that order; nothing is against a `ValidOffer` (`offer-valid`)
---   Checked      what the check answers: one answer to each offer (`check-determined`)
+--   HoldsAt i    pair i of the list holds; HoldBelow i: pairs 0 to i - 1 do
+--   checkTest    what is refused, in the order 10, 11, 16, 12
+--   ValidOffer   an offer that is not refused (`offer-valid`)
+--   Checked      what the check answers: one answer to each offer (`check-determined`, `proved-exactly`, `not-proved-place`)
+--   numberOf, placeOf   document 01's number of an answer, and the place returned with it
 use mathlib.Core.Path.{_≡_}
 use mathlib.Core.Bool.{_&&_}
 use mathlib.Core.List.{List, [], _∷_}
@@ -41,7 +43,6 @@ pub record Holds (P : Pattern) (lefts rights : List ℕ) (a b : ℕ) : Type 0 wh
   pub agrees : accepts P a [] ≡ accepts P b []
   pub steps : (letter : ℕ) → letter < P .letters → Congruent (Listed lefts rights) (next P a letter) (next P b letter)
 
--- pair i of the list holds
 abbrev pub HoldsAt : Pattern → List ℕ → List ℕ → ℕ → Type 0
 HoldsAt P lefts rights i = Holds P lefts rights (getD lefts i 0) (getD rights i 0)
 
@@ -67,11 +68,10 @@ checkTest o =
     ∷ pairsTest (o .pattern .states) (o .x) (o .y) (o .lefts) (o .rights)
     ∷ [])
 
--- an offer that is not refused
 pub record ValidOffer (o : Offer) : Type 0 where
   pub pattern : Valid (o .pattern)
   pub pairs-fit : length (o .lefts) ≤ 1024
-  pub even : length (o .lefts) ≡ length (o .rights)
+  pub sides-match : length (o .lefts) ≡ length (o .rights)
   pub x-good : Good (o .pattern .states) (o .x)
   pub y-good : Good (o .pattern .states) (o .y)
   pub lefts-good : (i : ℕ) → i < length (o .lefts) → Good (o .pattern .states) (getD (o .lefts) i 0)
@@ -79,24 +79,23 @@ pub record ValidOffer (o : Offer) : Type 0 where
 
 -- ---- the answer
 
--- where the starting pair is in order the pairs decide: all hold, or the place is the lowest failing pair
+-- the starting pair in order: PROVED where all pairs hold, else the place is the lowest failing pair
 pub data ByPairs (P : Pattern) (lefts rights : List ℕ) : Answer → Type 0 where
   all-hold : HoldBelow P lefts rights (length lefts) → ByPairs P lefts rights Proved
   fails : {i : ℕ} → i < length lefts → HoldBelow P lefts rights i → (HoldsAt P lefts rights i → ⊥) → ByPairs P lefts rights (NotProved i)
 
--- where it is not, the place is the number of pairs, also where a listed pair fails
+-- the starting pair is looked at first: where it is not in order, the place is the number of pairs, whatever the pairs do
 pub data Checked (o : Offer) : Answer → Type 0 where
   refuses : {w : ℕ} → checkTest o ≡ Against w → Checked o (Refused w)
   not-started : checkTest o ≡ Fine → (Starts (o .lefts) (o .rights) (o .x) (o .y) → ⊥) → Checked o (NotProved (length (o .lefts)))
   started : {r : Answer} → checkTest o ≡ Fine → Starts (o .lefts) (o .rights) (o .x) (o .y) → ByPairs (o .pattern) (o .lefts) (o .rights) r → Checked o r
 
--- document 01's number of an answer: 5 PROVED, 6 NOT-PROVED, or the refusal
+-- 5 PROVED, 6 NOT-PROVED, or the refusal
 abbrev pub numberOf : Answer → ℕ
 numberOf Proved = 5
 numberOf (NotProved place) = 6
 numberOf (Refused w) = w
 
--- the place that is returned with it
 abbrev pub placeOf : Answer → ℕ
 placeOf Proved = 0
 placeOf (NotProved place) = place

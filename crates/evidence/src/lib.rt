@@ -9,7 +9,7 @@ ghost use Rattle.evidence.specs.Evidence.{listTest, pairsTest, checkTest
 use sets::States;
 use verdict::Verdict;
 
-// What the check of an offer answers; with NotProved goes its place.
+// What the check of an offer answers; NOT-PROVED has its place.
 pub enum Answer {
     Proved,
     NotProved(usize),
@@ -119,7 +119,7 @@ fn holds(
     true
 }
 
-// The answer by the pairs, the lowest first.
+// The answer to an offer that starts: the lowest failing pair, if any, decides.
 fn by_pairs(
     states: usize,
     letters: usize,
@@ -133,26 +133,19 @@ fn by_pairs(
     requires { ⌜ length (now lefts) ≡ length (now rights) ⌝ }
     ensures { λ r. ⌜ ByPairs (patternOf states letters finals (now (rows .entry))) (now (lefts .entry)) (now (rights .entry)) r ⌝ }
 {
-    let mut i = 0;
-    while i < lefts.len() {
-        if !holds(
-            states,
-            letters,
-            finals,
-            rows,
-            lefts,
-            rights,
-            lefts[i],
-            rights[i],
-        ) {
-            return Answer::NotProved(i);
+    let mut place = 0;
+    while place < lefts.len() {
+        let a = lefts[place];
+        let b = rights[place];
+        if !holds(states, letters, finals, rows, lefts, rights, a, b) {
+            return Answer::NotProved(place);
         }
-        i += 1;
+        place += 1;
     }
     Answer::Proved
 }
 
-// Checks an offered list of pairs. The starting pair is looked for before the pairs are tried.
+// Checks an offered list of pairs: the starting pair first, then the pairs in their order.
 pub fn check(
     states: usize,
     letters: usize,

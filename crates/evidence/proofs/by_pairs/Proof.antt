@@ -11,25 +11,25 @@ use Rattle.evidence.proofs.by_pairs.Statement.{statement}
 use Rattle.evidence.proofs.by_pairs.Tie as tie
 
 abbrev Inv-loop : tie.InvT-loop
-Inv-loop states letters finals rows lefts rights i₀ i = Held (patternOf states letters finals rows) lefts rights i
+Inv-loop states letters finals rows lefts rights place₀ place = Held (patternOf states letters finals rows) lefts rights place
 
 abbrev μ-loop : tie.MeasureT-loop
-μ-loop states letters finals rows lefts rights i₀ i = length lefts - i
+μ-loop states letters finals rows lefts rights place₀ place = length lefts - place
 
 loop-holds : tie.Need-loop-holds Inv-loop μ-loop
 loop-holds c = held-none
 
-mul-holds : tie.Need-mul-holds Inv-loop μ-loop
-mul-holds c = search needs
+mul-a : tie.Need-mul-a Inv-loop μ-loop
+mul-a c = search needs
 
-shared-slice-read-holds : tie.Need-shared-slice-read-holds Inv-loop μ-loop
-shared-slice-read-holds c = omega arith
+shared-slice-read-a : tie.Need-shared-slice-read-a Inv-loop μ-loop
+shared-slice-read-a c = omega arith
 
-mul-holds-2 : tie.Need-mul-holds-2 Inv-loop μ-loop
-mul-holds-2 c = search needs
+mul-b : tie.Need-mul-b Inv-loop μ-loop
+mul-b c = search needs
 
-shared-slice-read-holds-2 : tie.Need-shared-slice-read-holds-2 Inv-loop μ-loop
-shared-slice-read-holds-2 c = omega arith
+shared-slice-read-b : tie.Need-shared-slice-read-b Inv-loop μ-loop
+shared-slice-read-b c = omega arith
 
 holds-requires : tie.Need-holds-requires Inv-loop μ-loop
 holds-requires c κs = search needs
@@ -40,8 +40,8 @@ returns c =
     let turn = tried .before .before .before in
     fails (turn .loop-test .taken) (turn .before .loop .inv .lower) (tried .holds .ensures .complete (not-true _ (c .if1 .taken)))
 
-add-i : tie.Need-add-i Inv-loop μ-loop
-add-i c = omega arith
+add-place : tie.Need-add-place Inv-loop μ-loop
+add-place c = omega arith
 
 loop-less : tie.Need-loop-less Inv-loop μ-loop
 loop-less c = omega arith
@@ -62,13 +62,13 @@ by-pairs-spec =
     Inv-loop
     μ-loop
     loop-holds
-    mul-holds
-    shared-slice-read-holds
-    mul-holds-2
-    shared-slice-read-holds-2
+    mul-a
+    shared-slice-read-a
+    mul-b
+    shared-slice-read-b
     holds-requires
     returns
-    add-i
+    add-place
     loop-less
     loop-again
     returns-2)

@@ -1,9 +1,9 @@
 -- `evidence::check` makes the tests, looks for the starting pair, then tries the pairs.
 use mathlib.Core.Path.{sym, _∙_}
+use borrow.Author.Needs.{needs}
 use borrow.Author.Tests.{not-true, not-false}
 use Rattle.evidence.specs.Evidence.Checked.{refuses, not-started, started}
 use Rattle.evidence.proofs.Validity.{offer-valid}
-use borrow.Author.Needs.{needs}
 use Rattle.evidence.proofs.check.Statement.{statement}
 use Rattle.evidence.proofs.check.Tie as tie
 
@@ -22,7 +22,7 @@ enum-told : tie.Need-enum-told
 enum-told c = search needs
 
 starts-requires : tie.Need-starts-requires
-starts-requires c κs = offer-valid _ .0 (sym (c .before .before .check-test .ensures) ∙ c .enum-told .given .1) .even
+starts-requires c κs = offer-valid _ .0 (sym (c .before .before .check-test .ensures) ∙ c .enum-told .given .1) .sides-match
 
 returns-2 : tie.Need-returns-2
 returns-2 c =
@@ -33,7 +33,7 @@ by-pairs-requires : tie.Need-by-pairs-requires
 by-pairs-requires c κs =
     let fine = c .before .before in
     let valid = offer-valid _ .0 (sym (fine .before .before .check-test .ensures) ∙ fine .enum-told .given .1) in
-    (valid .pattern .sized .states-fit, (valid .pattern .tabled, valid .even))
+    (valid .pattern .sized .states-fit, (valid .pattern .tabled, valid .sides-match))
 
 returns-3 : tie.Need-returns-3
 returns-3 c =

@@ -1,9 +1,9 @@
 -- `evidence::pairs_test` makes its four tests in order.
 use mathlib.Core.Path.{refl, sym}
+use borrow.Author.Needs.{needs}
 use Rattle.verdict.specs.Tests.{inOrder}
 use Rattle.verdict.proofs.Ordered.{order-last}
 use Rattle.evidence.specs.Evidence.{pairsTest}
-use borrow.Author.Needs.{needs}
 use Rattle.evidence.proofs.pairs_test.Statement.{statement}
 use Rattle.evidence.proofs.pairs_test.Tie as tie
 
