@@ -1,8 +1,10 @@
 // Sets of states, as masks of 64 bits: bit s for state s.
 ghost use mathlib.Core.Path.{_≡_};
-ghost use Prim.Native.Nat.{_<_, _≤_, _^_};
+ghost use Prim.Native.Nat.{_<_, _^_};
 ghost use lib.Bits.{bitOr};
-ghost use Rattle.sets.specs.Sets as Sets;
+ghost use Rattle.verdict.specs.Tests.{Decides};
+ghost use Rattle.sets.specs.Sets;
+ghost use Rattle.sets.specs.Sets.{Within};
 
 // A set of states as a value of its own, and the two numbers that go with lists of pairs of them.
 pub struct States {
@@ -36,6 +38,13 @@ pub fn union(a: u64, b: u64) -> u64
     ensures { λ r. ⌜ r ≡ bitOr a b ⌝ }
 {
     a | b
+}
+
+// Whether each state of `a` is in `c`.
+pub fn within(a: u64, c: u64) -> bool
+    ensures { λ r. ⌜ Decides (Within a c) r ⌝ }
+{
+    a & c == a
 }
 
 // Whether two sets have a state in common.

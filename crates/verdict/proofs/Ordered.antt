@@ -1,5 +1,5 @@
 -- The laws of tests made in order. Assumes nothing.
-use mathlib.Core.Path.{_≡_, refl, sym, ap, _∙_}
+use mathlib.Core.Path.{_≡_, refl}
 use mathlib.Core.Logic.{_↔_}
 use mathlib.Core.Bool.{Bool, true, false}
 use mathlib.Core.List.{List, [], _∷_}
@@ -26,13 +26,24 @@ need-fine false w e = let z : _≡_ {A = ℕ} 0 1 = cc in absurd (omega arith)
 
 -- ---- several in order
 
--- nothing is against all of them exactly where nothing is against each
-pub order-head : (v : Verdict) (tests : List Verdict) → inOrder (v ∷ tests) ≡ Fine → v ≡ Fine
-unfolding inOrder
-order-head Fine tests e = refl
-order-head (Against w) tests e = e
+-- nothing is against any of the tests
+abbrev pub AllFine : List Verdict → Type 0
+AllFine [] = Unit {0}
+AllFine (v ∷ tests) = (v ≡ Fine) × AllFine tests
 
-pub order-tail : (v : Verdict) (tests : List Verdict) → inOrder (v ∷ tests) ≡ Fine → inOrder tests ≡ Fine
+-- nothing is against all of them exactly where nothing is against each
+pub order-fine : (tests : List Verdict) → (inOrder tests ≡ Fine) ↔ AllFine tests
 unfolding inOrder
-order-tail Fine tests e = e
-order-tail (Against w) tests e = let z : _≡_ {A = ℕ} 0 1 = cc in absurd (omega arith)
+order-fine [] = (λ e. tt, λ u. refl)
+order-fine (Fine ∷ tests) = (λ e. (refl, order-fine tests .0 e), λ (p, q). order-fine tests .1 q)
+order-fine (Against w ∷ tests) = (λ e. let z : _≡_ {A = ℕ} 0 1 = cc in absurd (omega arith), λ (p, q). p)
+
+-- a test that fails decides
+pub order-stop : (v : Verdict) (tests : List Verdict) {w : ℕ} → v ≡ Against w → inOrder (v ∷ tests) ≡ v
+unfolding inOrder
+order-stop v tests e = rw e refl
+
+-- a test that holds leaves the decision to the later ones
+pub order-next : (v : Verdict) (tests : List Verdict) → v ≡ Fine → inOrder (v ∷ tests) ≡ inOrder tests
+unfolding inOrder
+order-next v tests e = rw e refl

@@ -1,6 +1,7 @@
 -- What a test says, and tests made in order. Refusals are document 01's numbers, 10 and up.
+use mathlib.Core.Path.{_≡_}
 use mathlib.Core.Bool.{Bool, true, false}
-use mathlib.Core.List.{List, [], _∷_}
+use mathlib.Core.List.{List, [], _∷_, map}
 use Prim.Native.Nat.{ℕ}
 use Rattle.verdict.specs.declared.Verdict.{Verdict}
 use Rattle.verdict.specs.declared.Verdict.the-variants.{Fine, Against}
@@ -15,3 +16,12 @@ unfoldable pub inOrder : List Verdict → Verdict
 inOrder [] = Fine
 inOrder (Fine ∷ tests) = inOrder tests
 inOrder (Against w ∷ tests) = Against w
+
+-- one test of each value, in the order of the list
+unfoldable pub each : (ℕ → Verdict) → List ℕ → Verdict
+each test values = inOrder (map test values)
+
+-- the flag says whether A holds
+pub record Decides (A : Type 0) (flag : Bool) : Type 0 where
+  pub sound : flag ≡ true → A
+  pub complete : flag ≡ false → A → ⊥

@@ -1,0 +1,5 @@
+-- Laws that belong to no one function.
+pub mod Validity
+pub mod Steps
+pub mod Picking
+pub mod Words

@@ -1,0 +1,73 @@
+-- Nothing is against a pattern exactly where it is valid: each test, and the tests together. Assumes nothing.
+use mathlib.Core.Path.{_≡_, refl, sym, ap, _∙_}
+use mathlib.Core.Logic.{_↔_}
+use mathlib.Core.Bool.{_&&_, and-eq-true-iff}
+use mathlib.Core.List.{List, [], _∷_}
+use Prim.Native.Nat.{ℕ, _*_, _^_, _≤_, _<_}
+use lib.ListN.{length, getD}
+use lib.Dec.{leb, ltb, eqb}
+use borrow.Author.Tests.{leb-true, le-leb, ltb-true, lt-ltb, eqb-true, eq-eqb}
+use Rattle.verdict.specs.declared.Verdict.{Verdict}
+use Rattle.verdict.specs.declared.Verdict.the-variants.{Fine, Against}
+use Rattle.verdict.specs.Tests.{need, inOrder, each}
+use Rattle.verdict.proofs.Ordered.{need-holds, need-fine, order-fine}
+use Rattle.verdict.proofs.Each.{each-fine}
+use Rattle.sets.specs.Sets.{Good}
+use Rattle.pattern.specs.Pattern.{Pattern, Sized, Valid}
+use Rattle.pattern.specs.Tests.{sizeTest, tableTest, setTest, shapeTest, masksTest, patternTest}
+
+pub size-fine : (most v : ℕ) → (sizeTest most v ≡ Fine) ↔ ((1 ≤ v) × (v ≤ most))
+unfolding sizeTest
+size-fine most v = (
+  λ e. let (p, q) = and-eq-true-iff (leb 1 v) (leb v most) .0 (need-fine _ 10 e) in (leb-true 1 v p, leb-true v most q),
+  λ (p, q). need-holds _ 10 (rw (le-leb 1 v p, le-leb v most q) refl),
+)
+
+pub table-fine : (n k count : ℕ) → (tableTest n k count ≡ Fine) ↔ (count ≡ n * k)
+unfolding tableTest
+table-fine n k count = (λ e. eqb-true _ _ (need-fine _ 11 e), λ p. need-holds _ 11 (eq-eqb _ _ p))
+
+pub set-fine : (n mask : ℕ) → (setTest n mask ≡ Fine) ↔ Good n mask
+unfolding setTest
+set-fine n mask = (λ e. record { below = ltb-true _ _ (need-fine _ 12 e) }, λ g. need-holds _ 12 (lt-ltb _ _ (g .below)))
+
+pub sets-fine : (n : ℕ) (masks : List ℕ) → (each (setTest n) masks ≡ Fine) ↔ ((i : ℕ) → i < length masks → Good n (getD masks i 0))
+sets-fine n masks = (
+  λ e i l. set-fine n _ .0 (each-fine (setTest n) masks .0 e i l),
+  λ f. each-fine (setTest n) masks .1 (λ i l. set-fine n _ .1 (f i l)),
+)
+
+-- 10 and 11
+pub shape-fine : (P : Pattern) → (shapeTest P ≡ Fine) ↔ (Sized (P .states) (P .letters) × (length (P .rows) ≡ P .states * P .letters))
+unfolding shapeTest
+shape-fine P = (to, fro)
+  where
+    to : shapeTest P ≡ Fine → Sized (P .states) (P .letters) × (length (P .rows) ≡ P .states * P .letters)
+    to e =
+        let (n, (k, (count, _))) = order-fine _ .0 e in
+        let (some-n, most-n) = size-fine 64 (P .states) .0 n in
+        let (some-k, most-k) = size-fine 32 (P .letters) .0 k in
+        (record { some-state = some-n; states-fit = most-n; some-letter = some-k; letters-fit = most-k }, table-fine _ _ _ .0 count)
+
+    fro : Sized (P .states) (P .letters) × (length (P .rows) ≡ P .states * P .letters) → shapeTest P ≡ Fine
+    fro (s, t) = order-fine _ .1 (size-fine 64 _ .1 (s .some-state, s .states-fit), (size-fine 32 _ .1 (s .some-letter, s .letters-fit), (table-fine _ _ _ .1 t, tt)))
+
+-- 12 for the pattern's own masks
+pub masks-fine : (P : Pattern) → (masksTest P ≡ Fine)
+    ↔ (Good (P .states) (P .finals) × ((i : ℕ) → i < length (P .rows) → Good (P .states) (getD (P .rows) i 0)))
+unfolding masksTest
+masks-fine P = (
+  λ e. let (finals, (rows, _)) = order-fine _ .0 e in (set-fine _ _ .0 finals, sets-fine _ _ .0 rows),
+  λ (finals, rows). order-fine _ .1 (set-fine _ _ .1 finals, (sets-fine _ _ .1 rows, tt)),
+)
+
+pub pattern-valid : (P : Pattern) → (patternTest P ≡ Fine) ↔ Valid P
+unfolding patternTest
+pattern-valid P = (to, λ v. order-fine _ .1 (shape-fine P .1 (v .sized, v .tabled), (masks-fine P .1 (v .finals-good, v .rows-good), tt)))
+  where
+    to : patternTest P ≡ Fine → Valid P
+    to e =
+        let (shape, (masks, _)) = order-fine _ .0 e in
+        let (sized, tabled) = shape-fine P .0 shape in
+        let (finals, rows) = masks-fine P .0 masks in
+        record { sized = sized; tabled = tabled; finals-good = finals; rows-good = rows }

@@ -1,0 +1,33 @@
+-- A pattern: n states, k letters, the final states, and n * k rows. Row s * k + a is the set reached from state s by letter a.
+use mathlib.Core.Path.{_≡_}
+use mathlib.Core.List.{List}
+use Prim.Native.Nat.{ℕ, _+_, _*_, _≤_, _<_}
+use lib.ListN.{length, getD}
+use Rattle.sets.specs.Sets.{Good}
+
+pub record Pattern : Type 0 where
+  pub states : ℕ
+  pub letters : ℕ
+  pub finals : ℕ
+  pub rows : List ℕ
+
+abbrev pub patternOf : ℕ → ℕ → ℕ → List ℕ → Pattern
+patternOf n k finals rows = record { states = n; letters = k; finals = finals; rows = rows }
+
+-- the set reached from state s by letter a
+abbrev pub row : Pattern → ℕ → ℕ → ℕ
+row P s a = getD (P .rows) (s * P .letters + a) 0
+
+-- n from 1 to 64, k from 1 to 32
+pub record Sized (n k : ℕ) : Type 0 where
+  pub some-state : 1 ≤ n
+  pub states-fit : n ≤ 64
+  pub some-letter : 1 ≤ k
+  pub letters-fit : k ≤ 32
+
+-- a pattern that no call refuses: in range, with n * k rows, and every mask a set of its states
+pub record Valid (P : Pattern) : Type 0 where
+  pub sized : Sized (P .states) (P .letters)
+  pub tabled : length (P .rows) ≡ P .states * P .letters
+  pub finals-good : Good (P .states) (P .finals)
+  pub rows-good : (i : ℕ) → i < length (P .rows) → Good (P .states) (getD (P .rows) i 0)
