@@ -11,7 +11,7 @@ use borrow.Author.Tests.{lt-ltb, le-ltb, eq-eqb, ne-eqb}
 use Rattle.verdict.specs.declared.Verdict.{Verdict}
 use Rattle.verdict.specs.declared.Verdict.the-variants.{Fine, Against}
 use Rattle.verdict.specs.Tests.{need, inOrder}
-use Rattle.verdict.proofs.Ordered.{need-fine, order-head, order-tail}
+use Rattle.verdict.proofs.Ordered.{need-fine, order-fine}
 use Rattle.numbers.specs.Numbers.{encodeIn, encode, byteTest, Form, whole, faulty, more, groups}
 
 -- ---- one byte judged
@@ -23,7 +23,7 @@ module _ (i b : ℕ) where
   -- a byte 0 that is fine stands first
   pub fine-zero : byteTest i b ≡ Fine → b ≡ 0 → i ≡ 0
   unfolding byteTest
-  fine-zero h z = go (ℕ-discrete i 0) (need-fine (eqb i 0 || not (eqb b 0)) 21 (order-head _ _ h))
+  fine-zero h z = go (ℕ-discrete i 0) (need-fine (eqb i 0 || not (eqb b 0)) 21 (order-fine _ .0 h .0))
     where
       go : Dec (i ≡ 0) → (eqb i 0 || not (eqb b 0)) ≡ true → i ≡ 0
       go (yes e) t = e
@@ -32,7 +32,7 @@ module _ (i b : ℕ) where
   -- a tenth byte that is fine is 01
   pub fine-tenth : byteTest i b ≡ Fine → 9 ≤ i → b ≡ 1
   unfolding byteTest
-  fine-tenth h n = go (ℕ-discrete b 1) (need-fine (ltb i 9 || eqb b 1) 21 (order-head _ _ (order-tail _ _ h)))
+  fine-tenth h n = go (ℕ-discrete b 1) (need-fine (ltb i 9 || eqb b 1) 21 (order-fine _ .0 h .1 .0))
     where
       go : Dec (b ≡ 1) → (ltb i 9 || eqb b 1) ≡ true → b ≡ 1
       go (yes e) t = e

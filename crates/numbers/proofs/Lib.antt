@@ -1,5 +1,4 @@
 -- Laws that belong to no one function, each after those it rests on.
-pub mod InOrder
 pub mod Groups
 pub mod RoundTrip
 pub mod Faults

@@ -17,6 +17,9 @@ sets-append l i (x ∷ a) b =
     let e : suc i + length a ≡ i + suc (length a) = omega arith in
     sets-append (set l i x) (suc i) a b ∙ ap (λ (n : ℕ). sets (sets (set l i x) (suc i) a) n b) e
 
+pub stored-length : {old new bytes : List ℕ} {at next : ℕ} → Stored old at bytes next new → length new ≡ length old
+stored-length {old} {bytes = bytes} {at = at} s = ap length (s .stored) ∙ length-sets old at bytes
+
 -- putting one part and then another is putting both
 pub stored-then : {old mid new a b : List ℕ} {at next end : ℕ} → Stored old at a next mid → Stored mid next b end new → Stored old at (a ++ b) end new
 stored-then {old} {mid} {new} {a} {b} {at} s t =
@@ -73,7 +76,7 @@ module _ {old : List ℕ} {at : ℕ} {list out : List ℕ} {place i : ℕ} (g : 
   pub putting-all-step : {next : ℕ} {new : List ℕ} → i < length list → Stored out place (encode (getD list i 0)) next new → PuttingAll old at list new next (i + 1)
   putting-all-step h s =
       record {
-        long = ap length (s .stored) ∙ length-sets out place (encode (getD list i 0)) ∙ g .long;
+        long = stored-length s ∙ g .long;
         ends = omega (arith, g .ends, s .after, all-sizes list i h);
         same =
             g .same
