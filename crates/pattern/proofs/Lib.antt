@@ -3,3 +3,5 @@ pub mod Validity
 pub mod Steps
 pub mod Picking
 pub mod Words
+pub mod Following
+pub mod Judging

@@ -3,16 +3,19 @@ use mathlib.Core.Path.{_≡_, refl, sym, ap, _∙_}
 use mathlib.Core.Logic.{_↔_}
 use mathlib.Core.Bool.{_&&_, and-eq-true-iff}
 use mathlib.Core.List.{List, [], _∷_}
-use Prim.Native.Nat.{ℕ, _*_, _^_, _≤_, _<_}
+use Prim.Native.Nat.{ℕ, _*_, _/_, _^_, _≤_, _<_}
 use lib.ListN.{length, getD}
 use lib.Dec.{leb, ltb, eqb}
-use borrow.Author.Tests.{leb-true, le-leb, ltb-true, lt-ltb, eqb-true, eq-eqb}
+use native.Mathlib.Decide.{decLt, ℕ-discrete}
+use native.Mathlib.Omega.{arith}
+use borrow.Author.Tests.{leb-true, le-leb, ltb-true, lt-ltb, le-ltb, eqb-true, eq-eqb, ne-eqb}
 use Rattle.verdict.specs.declared.Verdict.{Verdict}
 use Rattle.verdict.specs.declared.Verdict.the-variants.{Fine, Against}
 use Rattle.verdict.specs.Tests.{need, inOrder, each}
 use Rattle.verdict.proofs.Ordered.{need-holds, need-fine, order-fine}
 use Rattle.verdict.proofs.Each.{each-fine}
 use Rattle.sets.specs.Sets.{Good}
+use Rattle.sets.proofs.Goodness.{good-shift}
 use Rattle.pattern.specs.Pattern.{Pattern, Sized, Valid}
 use Rattle.pattern.specs.Tests.{sizeTest, tableTest, setTest, shapeTest, masksTest, patternTest}
 
@@ -23,6 +26,13 @@ size-fine most v = (
   λ (p, q). need-holds _ 10 (rw (le-leb 1 v p, le-leb v most q) refl),
 )
 
+-- both numbers are in range
+pub sized-fine : {n k : ℕ} → sizeTest 64 n ≡ Fine → sizeTest 32 k ≡ Fine → Sized n k
+sized-fine {n} {k} p q =
+    let (some-n, most-n) = size-fine 64 n .0 p in
+    let (some-k, most-k) = size-fine 32 k .0 q in
+    record { some-state = some-n; states-fit = most-n; some-letter = some-k; letters-fit = most-k }
+
 pub table-fine : (n k count : ℕ) → (tableTest n k count ≡ Fine) ↔ (count ≡ n * k)
 unfolding tableTest
 table-fine n k count = (λ e. eqb-true _ _ (need-fine _ 11 e), λ p. need-holds _ 11 (eq-eqb _ _ p))
@@ -30,6 +40,18 @@ table-fine n k count = (λ e. eqb-true _ _ (need-fine _ 11 e), λ p. need-holds 
 pub set-fine : (n mask : ℕ) → (setTest n mask ≡ Fine) ↔ Good n mask
 unfolding setTest
 set-fine n mask = (λ e. record { below = ltb-true _ _ (need-fine _ 12 e) }, λ g. need-holds _ 12 (lt-ltb _ _ (g .below)))
+
+-- the code's test of a mask
+pub set-shift : (n mask : ℕ) → ltb mask (2 ^ n) ≡ eqb (mask / 2 ^ n) 0
+set-shift n mask = pick (ℕ-discrete (mask / 2 ^ n) 0)
+  where
+    pick : Dec (mask / 2 ^ n ≡ 0) → ltb mask (2 ^ n) ≡ eqb (mask / 2 ^ n) 0
+    pick (yes z) = lt-ltb _ _ (good-shift n mask .0 z .below) ∙ sym (eq-eqb _ _ z)
+    pick (no f) = le-ltb _ _ (high (decLt mask (2 ^ n))) ∙ sym (ne-eqb _ _ f)
+      where
+        high : Dec (mask < 2 ^ n) → 2 ^ n ≤ mask
+        high (yes l) = absurd (f (good-shift n mask .1 (record { below = l })))
+        high (no g) = omega arith
 
 pub sets-fine : (n : ℕ) (masks : List ℕ) → (each (setTest n) masks ≡ Fine) ↔ ((i : ℕ) → i < length masks → Good n (getD masks i 0))
 sets-fine n masks = (
@@ -45,9 +67,7 @@ shape-fine P = (to, fro)
     to : shapeTest P ≡ Fine → Sized (P .states) (P .letters) × (length (P .rows) ≡ P .states * P .letters)
     to e =
         let (n, (k, (count, _))) = order-fine _ .0 e in
-        let (some-n, most-n) = size-fine 64 (P .states) .0 n in
-        let (some-k, most-k) = size-fine 32 (P .letters) .0 k in
-        (record { some-state = some-n; states-fit = most-n; some-letter = some-k; letters-fit = most-k }, table-fine _ _ _ .0 count)
+        (sized-fine n k, table-fine _ _ _ .0 count)
 
     fro : Sized (P .states) (P .letters) × (length (P .rows) ≡ P .states * P .letters) → shapeTest P ≡ Fine
     fro (s, t) = order-fine _ .1 (size-fine 64 _ .1 (s .some-state, s .states-fit), (size-fine 32 _ .1 (s .some-letter, s .letters-fit), (table-fine _ _ _ .1 t, tt)))

@@ -120,13 +120,20 @@ pub fn next(states: usize, letters: usize, rows: &[u64], set: u64, letter: usize
     reached
 }
 
+// BAD-LETTER: one letter.
+fn letter_test(letters: usize, letter: u8) -> Verdict
+    ensures { λ r. ⌜ r ≡ letterTest letters letter ⌝ }
+{
+    verdict::need(wide(letter) < letters, 15)
+}
+
 // BAD-LETTER: each letter of a sequence.
 fn letters_test(letters: usize, sequence: &[u8]) -> Verdict
     ensures { λ r. ⌜ r ≡ each (letterTest letters) (now (sequence .entry)) ⌝ }
 {
     let mut i = 0;
     while i < sequence.len() {
-        let test = verdict::need(wide(sequence[i]) < letters, 15);
+        let test = letter_test(letters, sequence[i]);
         let Verdict::Fine = test else {
             return test;
         };

@@ -1,15 +1,34 @@
 -- The lowest state of a set that is not empty, as the code finds it: by trailing zeros, and n & (n - 1) for the rest. Assumes nothing.
 use mathlib.Core.Path.{_≡_, refl, sym, ap, ap₂, _∙_, subst}
-use mathlib.Core.Logic.{⊎-elim}
+use mathlib.Core.Logic.{_↔_, ⊎-elim}
 use Prim.Native.Nat.{ℕ, zero, suc, _+_, _-_, _*_, _/_, _%_, _^_, _≤_, _<_, min}
-use native.Mathlib.Nat.{one-mul, add-mul, add-zero, lt-of-not-le, lt-of-lt-of-le, le-trans, pow-suc, mul-assoc, mul-comm, mod-lt, lt-irrefl, eq-or-lt-of-le}
+use native.Mathlib.Nat.{one-mul, zero-mul, zero-div, add-mul, add-zero, lt-of-not-le, lt-of-lt-of-le, le-trans, pow-suc, mul-assoc, mul-comm, mod-lt, lt-irrefl, eq-or-lt-of-le}
+use native.Mathlib.Decide.{decLt}
 use native.Mathlib.Numerals.{add-one}
 use native.Mathlib.Omega.{arith}
 use lib.Dec.{lit<}
 use lib.Pow.{pow-add, pow-pos, pow-mono, shl-shr, shr-shr, shr-lt, ones-lt}
 use lib.Bits.{bitAnd, and-step, and-self, and-block, and-zero-l}
 use lib.Count.{trailingZeros, under}
-use Rattle.sets.specs.Sets.{bit}
+use Rattle.sets.specs.Sets.{bit, Has}
+
+-- ---- parity
+
+even : (m : ℕ) → m * 2 % 2 ≡ 0
+even m = omega arith
+
+odd : (m : ℕ) → (m * 2 + 1) % 2 ≡ 1
+odd m = omega arith
+
+half-even : (m : ℕ) → m * 2 / 2 ≡ m
+half-even m = omega arith
+
+half-odd : (m : ℕ) → (m * 2 + 1) / 2 ≡ m
+half-odd m = omega arith
+
+-- an odd multiple of p is an even one and p more
+odd-parts : (m p : ℕ) → (m * 2 + 1) * p ≡ m * 2 * p + p
+odd-parts m p = add-mul (m * 2) 1 p ∙ ap (λ (x : ℕ). m * 2 * p + x) (one-mul p)
 
 -- ---- a number is an odd one times a power of two
 
@@ -23,7 +42,7 @@ step n zero t e l ih pos =
 step n (suc zero) t e l ih pos = (n / 2, omega (arith, e))
 step n (suc (suc d)) t e l ih pos = absurd (omega (arith, l))
 
-pub lowest-odd : (k n : ℕ) → zero < n → n < 2 ^ k → (m : ℕ) × (n ≡ (m * 2 + 1) * 2 ^ trailingZeros k n)
+lowest-odd : (k n : ℕ) → zero < n → n < 2 ^ k → (m : ℕ) × (n ≡ (m * 2 + 1) * 2 ^ trailingZeros k n)
 unfolding trailingZeros
 lowest-odd zero n pos h = absurd (omega (arith, pos, h))
 lowest-odd (suc k) n pos h = step n (n % 2) (trailingZeros k (n / 2)) refl (mod-lt n (lit< tt)) (λ p. lowest-odd k (n / 2) p (half-lt k h)) pos
@@ -34,18 +53,6 @@ odd-and m =
     and-step (m * 2 + 1) (m * 2)
     ∙ ap₂ (λ (x y : ℕ). x * 2 + y) (ap₂ bitAnd (half-odd m) (half-even m) ∙ and-self m) (ap₂ min (odd m) (even m))
     ∙ add-zero (m * 2)
-  where
-    half-odd : (m : ℕ) → (m * 2 + 1) / 2 ≡ m
-    half-odd m = omega arith
-
-    half-even : (m : ℕ) → m * 2 / 2 ≡ m
-    half-even m = omega arith
-
-    odd : (m : ℕ) → (m * 2 + 1) % 2 ≡ 1
-    odd m = omega arith
-
-    even : (m : ℕ) → m * 2 % 2 ≡ 0
-    even m = omega arith
 
 sum : (a p : ℕ) → zero < p → a + p - 1 ≡ a + (p - 1)
 sum a p h = omega (arith, h)
@@ -55,15 +62,12 @@ back a p = omega arith
 
 drop-at : (m t : ℕ) → bitAnd ((m * 2 + 1) * 2 ^ t) ((m * 2 + 1) * 2 ^ t - 1) ≡ (m * 2 + 1) * 2 ^ t - 2 ^ t
 drop-at m t =
-    ap₂ bitAnd (sym (add-zero ((m * 2 + 1) * 2 ^ t))) (ap (λ (x : ℕ). x - 1) parts ∙ sum (m * 2 * 2 ^ t) (2 ^ t) (pow-pos t))
+    ap₂ bitAnd (sym (add-zero ((m * 2 + 1) * 2 ^ t))) (ap (λ (x : ℕ). x - 1) (odd-parts m (2 ^ t)) ∙ sum (m * 2 * 2 ^ t) (2 ^ t) (pow-pos t))
     ∙ and-block t (m * 2 + 1) (m * 2) 0 (2 ^ t - 1) (pow-pos t) (ones-lt t)
     ∙ ap₂ (λ (x y : ℕ). x * 2 ^ t + y) (odd-and m) (and-zero-l (2 ^ t - 1))
-    ∙ add-zero (m * 2 * 2 ^ t) ∙ back (m * 2 * 2 ^ t) (2 ^ t) ∙ ap (λ (x : ℕ). x - 2 ^ t) (sym parts)
-  where
-    parts : (m * 2 + 1) * 2 ^ t ≡ m * 2 * 2 ^ t + 2 ^ t
-    parts = add-mul (m * 2) 1 (2 ^ t) ∙ ap (λ (x : ℕ). m * 2 * 2 ^ t + x) (one-mul (2 ^ t))
+    ∙ add-zero (m * 2 * 2 ^ t) ∙ back (m * 2 * 2 ^ t) (2 ^ t) ∙ ap (λ (x : ℕ). x - 2 ^ t) (sym (odd-parts m (2 ^ t)))
 
-pub drop-lowest : (k n : ℕ) → zero < n → n < 2 ^ k → bitAnd n (n - 1) ≡ n - 2 ^ trailingZeros k n
+drop-lowest : (k n : ℕ) → zero < n → n < 2 ^ k → bitAnd n (n - 1) ≡ n - 2 ^ trailingZeros k n
 drop-lowest k n pos h =
     let q = lowest-odd k n pos h in
     ap (λ (x : ℕ). bitAnd x (x - 1)) (q .1) ∙ drop-at (q .0) (trailingZeros k n) ∙ ap (λ (x : ℕ). x - 2 ^ trailingZeros k n) (sym (q .1))
@@ -75,7 +79,7 @@ lowest-lt k n pos h =
     lt-of-not-le (λ le. lt-irrefl n (lt-of-lt-of-le h (le-trans (pow-mono le) (subst (λ (x : ℕ). 2 ^ trailingZeros k n ≤ x) (sym (q .1)) (one-le (q .0) (2 ^ trailingZeros k n))))))
   where
     one-le : (m p : ℕ) → p ≤ (m * 2 + 1) * p
-    one-le m p = subst (λ (x : ℕ). p ≤ x) (sym (add-mul (m * 2) 1 p ∙ ap (λ (x : ℕ). m * 2 * p + x) (one-mul p))) (omega arith)
+    one-le m p = omega (arith, odd-parts m p)
 
 -- ---- the bits of a * 2 ^ t
 
@@ -85,18 +89,12 @@ bit-below a s j =
     ap (λ (x : ℕ). a * x) (pow-add 2 s (suc j) ∙ mul-comm (2 ^ s) (2 ^ suc j)) ∙ sym (mul-assoc a (2 ^ suc j) (2 ^ s))
     ∙ ap (λ (x : ℕ). a * x * 2 ^ s) (pow-suc 2 j) ∙ ap (λ (x : ℕ). x * 2 ^ s) (sym (mul-assoc a (2 ^ j) 2)) in
     ap (λ (x : ℕ). x / 2 ^ s % 2) e ∙ ap (λ (x : ℕ). x % 2) (shl-shr (a * 2 ^ j * 2) s) ∙ even (a * 2 ^ j)
-  where
-    even : (m : ℕ) → m * 2 % 2 ≡ 0
-    even m = omega arith
 
 bit-lower : (a t s : ℕ) → s < t → bit (a * 2 ^ t) s ≡ 0
 bit-lower a t s h = subst (λ (x : ℕ). bit (a * 2 ^ x) s ≡ 0) (omega arith) (bit-below a s (t - s - 1))
 
 bit-at : (q t : ℕ) → bit ((q * 2 + 1) * 2 ^ t) t ≡ 1
 bit-at q t = ap (λ (x : ℕ). x % 2) (shl-shr (q * 2 + 1) t) ∙ odd q
-  where
-    odd : (q : ℕ) → (q * 2 + 1) % 2 ≡ 1
-    odd q = omega arith
 
 -- above its lowest digit an odd number and the even one below it have the same bits
 bit-over : (x t j : ℕ) → bit (x * 2 ^ t) (t + suc j) ≡ bit (x / 2) j
@@ -109,10 +107,7 @@ bit-same q t s h =
     let j = s - t - 1 in
     let e : t + suc j ≡ s = omega arith in
     subst (λ (x : ℕ). bit ((q * 2 + 1) * 2 ^ t) x ≡ bit (q * 2 * 2 ^ t) x) e
-    (bit-over (q * 2 + 1) t j ∙ ap (λ (y : ℕ). bit y j) (halves q) ∙ sym (bit-over (q * 2) t j))
-  where
-    halves : (q : ℕ) → (q * 2 + 1) / 2 ≡ q * 2 / 2
-    halves q = omega arith
+    (bit-over (q * 2 + 1) t j ∙ ap (λ (y : ℕ). bit y j) (half-odd q ∙ sym (half-even q)) ∙ sym (bit-over (q * 2) t j))
 
 -- the lowest set bit of n, and n without it
 pub record Lowest (n s r : ℕ) : Type 0 where
@@ -126,9 +121,9 @@ pub lowest-of : (n : ℕ) → 0 < n → n < 2 ^ 64 → Lowest n (trailingZeros 6
 lowest-of n pos h =
     let s = trailingZeros 64 n in
     let (q, e) = lowest-odd 64 n pos h in
-    let parts : (q * 2 + 1) * 2 ^ s ≡ q * 2 * 2 ^ s + 2 ^ s = add-mul (q * 2) 1 (2 ^ s) ∙ ap (λ (x : ℕ). q * 2 * 2 ^ s + x) (one-mul (2 ^ s)) in
-    let d : bitAnd n (n - 1) ≡ q * 2 * 2 ^ s = drop-lowest 64 n pos h ∙ minus n (q * 2 * 2 ^ s) (2 ^ s) (e ∙ parts) in
-    make n q s (bitAnd n (n - 1)) e d (minus-lt n (q * 2 * 2 ^ s) (2 ^ s) (e ∙ parts) (pow-positive s))
+    let parts : n ≡ q * 2 * 2 ^ s + 2 ^ s = e ∙ odd-parts q (2 ^ s) in
+    let d : bitAnd n (n - 1) ≡ q * 2 * 2 ^ s = drop-lowest 64 n pos h ∙ minus n (q * 2 * 2 ^ s) (2 ^ s) parts in
+    make n q s (bitAnd n (n - 1)) e d (minus-lt n (q * 2 * 2 ^ s) (2 ^ s) parts (pow-pos s))
   where
     minus : (n a p : ℕ) → n ≡ a + p → n - p ≡ a
     minus n a p e = omega arith
@@ -136,14 +131,8 @@ lowest-of n pos h =
     minus-lt : (n a p : ℕ) → n ≡ a + p → 0 < p → a < n
     minus-lt n a p e h = omega arith
 
-    pow-positive : (s : ℕ) → 0 < 2 ^ s
-    pow-positive s = pow-pos s
-
     top : (q s i : ℕ) → i ≤ s → bit (q * 2 * 2 ^ s) i ≡ 0
     top q s i l = ⊎-elim (λ (z : i ≡ s). rw z (ap (λ (x : ℕ). x % 2) (shl-shr (q * 2) s) ∙ even q)) (λ b. bit-lower (q * 2) s i b) (eq-or-lt-of-le l)
-      where
-        even : (m : ℕ) → m * 2 % 2 ≡ 0
-        even m = omega arith
 
     make : (n q s r : ℕ) → n ≡ (q * 2 + 1) * 2 ^ s → r ≡ q * 2 * 2 ^ s → q * 2 * 2 ^ s < n → Lowest n s r
     make n q s r e d lt =
@@ -154,3 +143,23 @@ lowest-of n pos h =
           others = λ i l. rw (d, e) (sym (bit-same q s i l));
           less = rw d lt;
         }
+
+-- ---- a single state
+
+-- the set of the one state s has that state and no other
+pub single-members : (s t : ℕ) → Has (2 ^ s) t ↔ (t ≡ s)
+single-members s t = (to, λ e. rw e (record { is-one = rw one-mul at (bit-at 0 s) }))
+  where
+    to : Has (2 ^ s) t → t ≡ s
+    to h = pick (decLt t s) (decLt s t)
+      where
+        below : t < s → bit (2 ^ s) t ≡ 0
+        below l = rw one-mul at (bit-lower 1 s t l)
+
+        above : s < t → bit (2 ^ s) t ≡ 0
+        above l = (rw (one-mul, zero-mul) at (bit-same 0 s t l)) ∙ ap (λ (x : ℕ). x % 2) (zero-div (2 ^ t))
+
+        pick : Dec (t < s) → Dec (s < t) → t ≡ s
+        pick (yes l) d = absurd (omega (arith, below l, h .is-one))
+        pick (no f) (yes l) = absurd (omega (arith, above l, h .is-one))
+        pick (no f) (no g) = omega arith

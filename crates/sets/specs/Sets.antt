@@ -2,6 +2,7 @@
 --   bit a s      bit s of the mask a, 0 or 1
 --   Has a s      state s is in the set a
 --   bitOr a b    (the library's) the union: its bit s is the larger of the two bits (`bit-or`)
+--   2 ^ s        the set of the one state s (`single-members`)
 --   Within a c   each state of a is in c (`within-members`)
 --   meets a b    a state is in both (`meets-members`)
 --   Good n a     a set of n states: it has no bit n or above (`good-bits`)

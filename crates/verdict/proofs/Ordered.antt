@@ -47,3 +47,9 @@ order-stop v tests e = rw e refl
 pub order-next : (v : Verdict) (tests : List Verdict) → v ≡ Fine → inOrder (v ∷ tests) ≡ inOrder tests
 unfolding inOrder
 order-next v tests e = rw e refl
+
+-- the last test decides by itself
+pub order-last : (v : Verdict) → inOrder (v ∷ []) ≡ v
+unfolding inOrder
+order-last Fine = refl
+order-last (Against w) = refl

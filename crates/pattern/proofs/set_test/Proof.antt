@@ -1,25 +1,28 @@
+-- `pattern::set_test` is the definition of that name: a mask shifted down by n is 0 exactly where it is below 2 ^ n.
+use mathlib.Core.Path.{refl}
 use borrow.Author.Needs.{needs}
+use borrow.Author.Tests.{lt-ltb}
+use native.Mathlib.Nat.{lt-of-lt-of-le}
+use lib.Pow.{pow-mono}
+use Rattle.verdict.specs.Tests.{need}
+use Rattle.pattern.specs.Tests.{setTest}
+use Rattle.pattern.proofs.Validity.{set-shift}
 use Rattle.pattern.proofs.set_test.Statement.{statement}
 use Rattle.pattern.proofs.set_test.Tie as tie
-use Rattle.pattern.proofs.set_test.Reads as reads
-use Rattle.pattern.proofs.set_test.Lts as lts
-use Rattle.verdict.proofs.need.Reads as need-reads
 
--- src/lib.rt:45:9
 returns : tie.Need-returns
-returns c = ?
+unfolding setTest need
+returns c = rw (lt-ltb _ _ (lt-of-lt-of-le (c .before .fits .mask .fits) (pow-mono (c .if1 .taken)))) refl
 
--- src/lib.rt:47:19
 shr-need : tie.Need-shr-need
 shr-need c = search needs
 
--- src/lib.rt:47:5
 need-requires : tie.Need-need-requires
 need-requires c κs = search needs
 
--- src/lib.rt:41:1
 returns-2 : tie.Need-returns-2
-returns-2 c = ?
+unfolding setTest
+returns-2 c = rw (set-shift _ _) (c .need .ensures)
 
 pub set-test-spec : {M : Type 1} → statement M
 set-test-spec = tie.close (tie.spec returns shr-need need-requires returns-2)

@@ -1,57 +1,58 @@
+-- `pattern::sets_test` tests each mask in turn.
+use Prim.Native.Nat.{_-_}
+use mathlib.Core.Path.{sym, _∙_}
+use borrow.Author.Needs.{needs}
+use native.Mathlib.Omega.{arith}
+use lib.ListN.{length}
+use Rattle.verdict.proofs.Each.{Passed, passed-none, passed-more, passed-stop, passed-all}
+use Rattle.pattern.specs.Tests.{setTest}
 use Rattle.pattern.proofs.sets_test.Statement.{statement}
 use Rattle.pattern.proofs.sets_test.Tie as tie
-use Rattle.pattern.proofs.sets_test.Reads as reads
-use Rattle.pattern.proofs.sets_test.Lts as lts
-use Rattle.pattern.proofs.set_test.Reads as set-test-reads
 
 abbrev Inv-loop : tie.InvT-loop
-Inv-loop states masks i₀ i = ?
+Inv-loop states masks i₀ i = Passed (setTest states) masks i
 
 abbrev μ-loop : tie.MeasureT-loop
-μ-loop states masks i₀ i = ?
+μ-loop states masks i₀ i = length masks - i
 
--- src/lib.rt:55:5
 loop-holds : tie.Need-loop-holds Inv-loop μ-loop
-loop-holds c = ?
+loop-holds c = passed-none
 
--- src/lib.rt:56:37
 mul-set-test : tie.Need-mul-set-test Inv-loop μ-loop
-mul-set-test c = ?
+mul-set-test c = search needs
 
--- src/lib.rt:56:37
 shared-slice-read-set-test : tie.Need-shared-slice-read-set-test Inv-loop μ-loop
-shared-slice-read-set-test c = ?
+shared-slice-read-set-test c = omega arith
 
--- src/lib.rt:56:13
 set-test-requires : tie.Need-set-test-requires Inv-loop μ-loop
-set-test-requires c κs = ?
+set-test-requires c κs = search needs
 
 enum-told : tie.Need-enum-told Inv-loop μ-loop
-enum-told c = ?
+enum-told c = search needs
 
--- src/lib.rt:58:13
 enum-told-2 : tie.Need-enum-told-2 Inv-loop μ-loop
-enum-told-2 c = ?
+enum-told-2 c = search needs
 
--- src/lib.rt:58:13
 returns : tie.Need-returns Inv-loop μ-loop
-returns c = ?
+returns c =
+    let tested = c .before .before in
+    let turn = tested .before .before in
+    c .enum-told2 .given .1 ∙ sym (passed-stop (turn .loop-test .taken) (turn .before .loop .inv) (sym (tested .set-test .ensures) ∙ c .enum-told2 .given .1))
 
--- src/lib.rt:60:9
 add-i : tie.Need-add-i Inv-loop μ-loop
-add-i c = ?
+add-i c = omega arith
 
--- src/lib.rt:55:5
 loop-less : tie.Need-loop-less Inv-loop μ-loop
-loop-less c = ?
+loop-less c = omega arith
 
--- src/lib.rt:55:5
 loop-again : tie.Need-loop-again Inv-loop μ-loop
-loop-again c = ?
+loop-again c =
+    let tested = c .before .before in
+    let turn = tested .before .before in
+    passed-more (turn .loop-test .taken) (turn .before .loop .inv) (sym (tested .set-test .ensures) ∙ c .enum-told .given .1)
 
--- src/lib.rt:51:1
 returns-2 : tie.Need-returns-2 Inv-loop μ-loop
-returns-2 c = ?
+returns-2 c = sym (passed-all (c .loop-test .left) (c .before .loop .inv))
 
 pub sets-test-spec : {M : Type 1} → statement M
 sets-test-spec =

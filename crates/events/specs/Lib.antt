@@ -1,0 +1,2 @@
+-- The event names.
+pub mod Events

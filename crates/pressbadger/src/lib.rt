@@ -1,0 +1,30 @@
+// The host's face: the calls that C and Rust programs make. `include/pressbadger.h` is their manual.
+ghost use Rattle.pattern.specs.Pattern.{patternOf};
+ghost use Rattle.pressbadger.specs.Host.{Judges};
+use pattern::Judged;
+
+// The answer to `pb_judge`.
+#[repr(C)]
+pub struct PbJudged {
+    pub answer: u8,
+}
+
+// Judges one sequence from one set of states.
+#[no_mangle]
+pub extern "C" fn pb_judge(
+    states: usize,
+    letters: usize,
+    finals: u64,
+    rows: &[u64],
+    set: u64,
+    sequence: &[u8],
+) -> PbJudged
+    ensures { λ r. ⌜ Judges (patternOf states letters finals (now (rows .entry))) set (now (sequence .entry)) r ⌝ }
+{
+    let judged = pattern::judge(states, letters, finals, rows, set, sequence);
+    match judged {
+        Judged::Accept => PbJudged { answer: 3 },
+        Judged::Reject => PbJudged { answer: 4 },
+        Judged::Refused(number) => PbJudged { answer: number },
+    }
+}

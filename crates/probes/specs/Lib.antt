@@ -1,0 +1,2 @@
+-- What the probes answer.
+pub mod Probes

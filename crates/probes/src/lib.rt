@@ -1,0 +1,151 @@
+// Exports for tests alone: what the host does not call.
+ghost use mathlib.Core.Path.{_≡_};
+ghost use Prim.Native.Nat.{ℕ, _^_};
+ghost use lib.ListN.{length};
+ghost use lib.Bits.{bitOr};
+ghost use Rattle.verdict.specs.Tests.{Decides};
+ghost use Rattle.sets.specs.Sets.{Within, meets};
+ghost use Rattle.pattern.specs.Pattern.{patternOf};
+ghost use Rattle.pattern.specs.Tests.{patternTest};
+ghost use Rattle.pattern.specs.Language.{next};
+ghost use Rattle.congruence.specs.Congruence.{Congruent, Listed};
+ghost use Rattle.congruence.specs.Closing.{Closes};
+ghost use Rattle.probes.specs.Probes.{Probes, Says, stateTest, nextTest, sidesTest};
+use sets::States;
+use verdict::Verdict;
+
+// 7 and a value, or a refusal and 0.
+#[repr(C)]
+pub struct Probed {
+    pub answer: u8,
+    pub value: u64,
+}
+
+#[no_mangle]
+pub extern "C" fn probe_union(a: u64, b: u64) -> u64
+    ensures { λ r. ⌜ r ≡ bitOr a b ⌝ }
+{
+    sets::union(a, b)
+}
+
+#[no_mangle]
+pub extern "C" fn probe_within(a: u64, c: u64) -> bool
+    ensures { λ r. ⌜ Decides (Within a c) r ⌝ }
+{
+    sets::within(a, c)
+}
+
+#[no_mangle]
+pub extern "C" fn probe_meets(a: u64, b: u64) -> bool
+    ensures { λ r. ⌜ r ≡ meets a b ⌝ }
+{
+    sets::meets(a, b)
+}
+
+// The set of one state.
+#[no_mangle]
+pub extern "C" fn probe_single(s: usize) -> Probed
+    ensures { λ r. ⌜ Probes (stateTest s) (λ v. v ≡ 2 ^ s) r ⌝ }
+{
+    if s < 64 {
+        let single = States::single(s);
+        let mask = single.mask;
+        return Probed {
+            answer: 7,
+            value: mask,
+        };
+    }
+    Probed {
+        answer: 12,
+        value: 0,
+    }
+}
+
+// What is against a pattern.
+#[no_mangle]
+pub extern "C" fn probe_pattern(states: usize, letters: usize, finals: u64, rows: &[u64]) -> Probed
+    ensures { λ r. ⌜ Probes (patternTest (patternOf states letters finals (now (rows .entry)))) (λ v. v ≡ 0) r ⌝ }
+{
+    let test = pattern::pattern_test(states, letters, finals, rows);
+    match test {
+        Verdict::Fine => Probed {
+            answer: 7,
+            value: 0,
+        },
+        Verdict::Against(number) => Probed {
+            answer: number,
+            value: 0,
+        },
+    }
+}
+
+// The set that a letter takes a set to.
+#[no_mangle]
+pub extern "C" fn probe_next(
+    states: usize,
+    letters: usize,
+    rows: &[u64],
+    set: u64,
+    letter: u8,
+) -> Probed
+    ensures { λ r. ⌜ ((finals : ℕ) → Probes (nextTest (patternOf states letters finals (now (rows .entry))) letter) (λ v. v ≡ next (patternOf states letters finals (now (rows .entry))) set letter) r) ⌝ }
+{
+    let shape = pattern::shape_test(states, letters, rows);
+    if let Verdict::Against(number) = shape {
+        return Probed {
+            answer: number,
+            value: 0,
+        };
+    }
+    let taken = letter as usize;
+    if taken < letters {
+        return Probed {
+            answer: 7,
+            value: pattern::next(states, letters, rows, set, taken),
+        };
+    }
+    Probed {
+        answer: 15,
+        value: 0,
+    }
+}
+
+// A set closed by a list of pairs.
+#[no_mangle]
+pub extern "C" fn probe_close(lefts: &[u64], rights: &[u64], set: u64) -> Probed
+    ensures { λ r. ⌜ Probes (sidesTest (now (lefts .entry)) (now (rights .entry))) (λ v. Closes (Listed (now (lefts .entry)) (now (rights .entry))) set v) r ⌝ }
+{
+    if lefts.len() == rights.len() {
+        return Probed {
+            answer: 7,
+            value: congruence::close(lefts, rights, set),
+        };
+    }
+    Probed {
+        answer: 16,
+        value: 0,
+    }
+}
+
+// Whether two sets are congruent by a list of pairs: 1 or 0.
+#[no_mangle]
+pub extern "C" fn probe_congruent(lefts: &[u64], rights: &[u64], a: u64, b: u64) -> Probed
+    ensures { λ r. ⌜ Probes (sidesTest (now (lefts .entry)) (now (rights .entry))) (λ v. Says (Congruent (Listed (now (lefts .entry)) (now (rights .entry))) a b) v) r ⌝ }
+{
+    if lefts.len() == rights.len() {
+        if congruence::congruent(lefts, rights, a, b) {
+            return Probed {
+                answer: 7,
+                value: 1,
+            };
+        }
+        return Probed {
+            answer: 7,
+            value: 0,
+        };
+    }
+    Probed {
+        answer: 16,
+        value: 0,
+    }
+}
