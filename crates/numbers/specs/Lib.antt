@@ -1,0 +1,3 @@
+-- One number in seven-bit groups, and files of such numbers.
+pub mod Numbers
+pub mod Format

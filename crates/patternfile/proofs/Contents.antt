@@ -1,0 +1,142 @@
+-- What the numbers of a file are: those of a valid pattern and of two sets of its states, and no others.
+use Prim.Native.Nat.{ℕ, zero, suc, _+_, _*_, _^_, _<_, _≤_}
+use mathlib.Core.List.{List, [], _∷_, _++_}
+use mathlib.Core.Path.{_≡_, refl, sym, ap, _∙_, subst}
+use native.Mathlib.Nat.{lt-of-lt-of-le}
+use native.Mathlib.Omega.{arith}
+use lib.Dec.{leb}
+use lib.ListN.{length, take, drop, getD}
+use lib.Pow.{pow-mono}
+use lib.Seq.{take-at, drop-at, drop-append-seam}
+use borrow.Author.Tests.{leb-true}
+use Rattle.verdict.specs.declared.Verdict.{Verdict}
+use Rattle.verdict.specs.declared.Verdict.the-variants.{Fine, Against}
+use Rattle.verdict.proofs.Ordered.{need-fine}
+use Rattle.sets.specs.Sets.{Good}
+use Rattle.pattern.specs.Pattern.{Pattern, Sized, Valid}
+use Rattle.pattern.specs.Tests.{sizeTest, setTest}
+use Rattle.pattern.proofs.Validity.{size-fine, sized-fine, set-fine}
+use Rattle.numbers.specs.Numbers.{encode, AreBytes}
+use Rattle.numbers.specs.Format.{Format, ended, item, many, got, reading, encodeAll, Fits}
+use Rattle.numbers.proofs.Groups.{one-byte}
+use Rattle.numbers.proofs.Formats.{IsFile, reading-after-write, file-write-after-read}
+use Rattle.numbers.proofs.Parts.{FitsMany, fits-many, many-fits, encode-append}
+use Rattle.patternfile.specs.PatternFile.{numbersOf, roomTest, startsFormat, patternFormat}
+use Rattle.patternfile.specs.Reader.{FileOf}
+use Rattle.patternfile.proofs.Judging.{room-enough}
+
+-- ---- the numbers that fit the format
+
+room-within : (room count : ℕ) → roomTest room count ≡ Fine → count ≤ room
+unfolding roomTest
+room-within room count h = leb-true count room (need-fine (leb count room) 14 h)
+
+-- several numbers that fit are each fine by the test
+pub many-fine : (m : ℕ) (test : ℕ → Verdict) (vs : List ℕ) → Fits (many m test ended) vs → (i : ℕ) → i < length vs → test (getD vs i 0) ≡ Fine
+unfolding many Fits
+many-fine zero test [] h i l = absurd (omega arith)
+many-fine zero test (v ∷ vs) h i l = absurd h
+many-fine (suc m) test [] h i l = absurd h
+many-fine (suc m) test (v ∷ vs) h zero l = h .1
+many-fine (suc m) test (v ∷ vs) h (suc i) l = many-fine m test vs (h .2) i (omega arith)
+
+pub fine-many : (test : ℕ → Verdict) (vs : List ℕ) → ((i : ℕ) → i < length vs → (getD vs i 0 < 2 ^ 64) × (test (getD vs i 0) ≡ Fine)) → Fits (many (length vs) test ended) vs
+unfolding many Fits
+fine-many test [] h = tt
+fine-many test (v ∷ vs) h = (h 0 (omega arith) .0, h 0 (omega arith) .1, fine-many test vs (λ i l. h (suc i) (omega arith)))
+
+-- what fits, by its parts
+pub record Contents (room : ℕ) (P : Pattern) (x y : ℕ) : Type 0 where
+  pub valid : Valid P
+  pub enough : P .states * P .letters ≤ room
+  pub rows-fit : Fits (many (P .states * P .letters) (setTest (P .states)) ended) (P .rows)
+  pub good-x : Good (P .states) x
+  pub good-y : Good (P .states) y
+
+module _ (room : ℕ) (P : Pattern) (x y : ℕ) where
+  abbrev n : ℕ
+  n = P .states
+
+  abbrev k : ℕ
+  k = P .letters
+
+  pub fits-contents : length (P .rows) ≡ n * k → Fits (patternFormat room) (numbersOf P x y) → Contents room P x y
+  unfolding patternFormat Fits
+  fits-contents t h =
+      let m : FitsMany (n * k) (setTest n) (startsFormat n) (P .rows ++ (x ∷ y ∷ [])) = fits-many (n * k) (setTest n) (startsFormat n) (P .rows ++ (x ∷ y ∷ [])) (h .2 .2 .1 .2) in
+      let rows : Fits (many (n * k) (setTest n) ended) (P .rows) = subst (λ (l : List ℕ). Fits (many (n * k) (setTest n) ended) l) (take-at (P .rows) (x ∷ y ∷ []) (n * k) t) (m .first) in
+      let starts : Fits (startsFormat n) (x ∷ y ∷ []) = subst (λ (l : List ℕ). Fits (startsFormat n) l) (drop-at (P .rows) (x ∷ y ∷ []) (n * k) t) (m .rest) in
+      record {
+        valid =
+            record {
+              sized = sized-fine (h .1) (h .2 .1);
+              tabled = t;
+              finals-good = set-fine n (P .finals) .0 (h .2 .2 .1 .1);
+              rows-good = λ i l. set-fine n (getD (P .rows) i 0) .0 (many-fine (n * k) (setTest n) (P .rows) rows i l);
+            };
+        enough = room-within room (n * k) (h .2 .2 .0);
+        rows-fit = rows;
+        good-x = set-fine n x .0 (starts .1);
+        good-y = set-fine n y .0 (starts .2 .1);
+      }
+
+  pub contents-fit : Valid P → Good n x → Good n y → n * k ≤ room → Fits (patternFormat room) (numbersOf P x y)
+  unfolding patternFormat Fits
+  contents-fit v gx gy enough = (
+    omega (arith, v .sized .states-fit),
+    size-fine 64 n .1 (v .sized .some-state, v .sized .states-fit),
+    (omega (arith, v .sized .letters-fit), size-fine 32 k .1 (v .sized .some-letter, v .sized .letters-fit), (room-enough room (n * k) enough, finals)),
+  )
+    where
+      small : (mask : ℕ) → Good n mask → mask < 2 ^ 64
+      small mask g = lt-of-lt-of-le (g .below) (pow-mono (v .sized .states-fit))
+
+      fine : (mask : ℕ) → Good n mask → setTest n mask ≡ Fine
+      fine mask g = set-fine n mask .1 g
+
+      rows : Fits (many (n * k) (setTest n) ended) (P .rows)
+      rows = rw (← v .tabled) (fine-many (setTest n) (P .rows) (λ i l. (small _ (v .rows-good i l), fine _ (v .rows-good i l))))
+
+      finals : Fits (item (setTest n) (λ f. many (n * k) (setTest n) (startsFormat n))) (P .finals ∷ (P .rows ++ (x ∷ y ∷ [])))
+      finals = (
+        small (P .finals) (v .finals-good),
+        fine (P .finals) (v .finals-good),
+        many-fits (n * k) (setTest n) (startsFormat n) (P .rows) (x ∷ y ∷ []) rows (small x gx, fine x gx, (small y gy, fine y gy, tt)),
+      )
+
+-- ---- an accepted file
+
+module _ {room : ℕ} {s : List ℕ} {P : Pattern} {x y : ℕ} (are : AreBytes s) (f : FileOf room s P x y) where
+  is-file : IsFile (patternFormat room) (numbersOf P x y) s (length s)
+  is-file = file-write-after-read (patternFormat room) s (numbersOf P x y) (length s) are (f .read)
+
+  pub file-bytes : s ≡ encodeAll (numbersOf P x y)
+  file-bytes = is-file .bytes
+
+  -- WHAT THE READER ACCEPTS: a valid pattern with two sets of its states, whose rows have room
+  pub accepted-valid : Contents room P x y
+  accepted-valid = fits-contents room P x y (f .tabled) (is-file .fits)
+
+  abbrev starts : List ℕ
+  starts = x ∷ y ∷ []
+
+  -- n and k are one byte each
+  pub head-bytes : s ≡ P .states ∷ P .letters ∷ (encode (P .finals) ++ encodeAll (P .rows ++ starts))
+  unfolding encodeAll
+  head-bytes =
+      let v = accepted-valid .valid .sized in
+      let a : P .states < 128 = omega (arith, v .states-fit) in
+      let b : P .letters < 128 = omega (arith, v .letters-fit) in
+      let rest = encode (P .finals) ++ encodeAll (P .rows ++ starts) in
+      file-bytes ∙ ap (λ (l : List ℕ). l ++ (encode (P .letters) ++ rest)) (one-byte (P .states) a) ∙ ap (λ (l : List ℕ). P .states ∷ (l ++ rest)) (one-byte (P .letters) b)
+
+  -- so the rows stand two bytes and the finals' bytes behind the start
+  rows-at : drop (2 + length (encode (P .finals))) s ≡ encodeAll (P .rows) ++ encodeAll starts
+  rows-at =
+      let m : 2 + length (encode (P .finals)) ≡ suc (suc (length (encode (P .finals)))) = omega arith in
+      rw m (ap (drop (suc (suc (length (encode (P .finals)))))) head-bytes ∙ drop-append-seam (encode (P .finals)) (encodeAll (P .rows ++ starts)) ∙ encode-append (P .rows) starts)
+
+  pub rows-stand : reading (many (P .states * P .letters) (setTest (P .states)) ended) s (2 + length (encode (P .finals)))
+      ≡ got (P .rows) (2 + length (encode (P .finals)) + length (encodeAll (P .rows)))
+  rows-stand =
+      reading-after-write (many (P .states * P .letters) (setTest (P .states)) ended) (P .rows) s (2 + length (encode (P .finals))) (encodeAll starts) rows-at (accepted-valid .rows-fit)

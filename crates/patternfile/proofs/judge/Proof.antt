@@ -1,0 +1,310 @@
+-- `patternfile::judge` goes through the format: at each place `Reached` says what has been read and what is still to be read.
+use Prim.Native.Nat.{ℕ, _*_}
+use mathlib.Core.List.{List, [], _∷_, _++_}
+use native.Mathlib.Omega.{arith}
+use borrow.Author.Needs.{needs}
+use Rattle.pattern.specs.Tests.{setTest}
+use Rattle.numbers.specs.Numbers.{AreBytes}
+use Rattle.numbers.specs.Format.{ended, item, many}
+use Rattle.numbers.proofs.Steps.{Reached, reached-item, stopped-item, stopped-tail}
+use Rattle.patternfile.specs.PatternFile.{startsFormat, afterLetters, patternFormat}
+use Rattle.patternfile.proofs.Judging.{rowsFrom, goes-up, to-states, sizes-fine, to-room, stop-room, to-finals, stop-rows, rows-tabled, to-x, all-read}
+use Rattle.patternfile.proofs.judge.Statement.{statement}
+use Rattle.patternfile.proofs.judge.Tie as tie
+
+abbrev room : tie.Start → ℕ
+room start = start .args .room
+
+abbrev bytes : tie.Start → List ℕ
+bytes start = start .args .bytes .now
+
+-- ---- n and k are read
+
+module _ (c : tie.After-index2) where
+  abbrev has-k : tie.After-b
+  has-k = c .before .before .before
+
+  abbrev has-n : tie.After-a
+  has-n = has-k .before .before .before .before
+
+  abbrev start : tie.Start
+  start = has-n .before .before .before .before
+
+  abbrev states : ℕ
+  states = c .before .index .result
+
+  abbrev letters : ℕ
+  letters = c .index2 .result
+
+  at-room : Reached (patternFormat (room start)) (bytes start) (states ∷ letters ∷ []) (afterLetters (room start) states letters) (has-k .b .given .0 .1 .0)
+  at-room =
+      to-room (room start) (bytes start) (has-n .before .before .read-size .ensures) (has-n .a .given .1) (has-k .before .before .read-size2 .ensures) (has-k .b .given .1)
+      (c .before .index .ensures) (c .index2 .ensures)
+
+-- ---- the buffer has room
+
+module _ (c : tie.Else1) where
+  abbrev sized : tie.After-index2
+  sized = c .before .before
+
+  abbrev begin : tie.Start
+  begin = start sized
+
+  at-finals : Reached (patternFormat (room begin)) (bytes begin) (states sized ∷ letters sized ∷ [])
+      (item (setTest (states sized)) (λ finals. many (states sized * letters sized) (setTest (states sized)) (startsFormat (states sized)))) (has-k sized .b .given .0 .1 .0)
+  at-finals = to-finals (room begin) (bytes begin) (states sized) (letters sized) (at-room sized) (c .before .product .ensures) (c .if1 .left)
+
+-- ---- the finals are read
+
+module _ (c : tie.After-c) where
+  abbrev roomy : tie.Else1
+  roomy = c .before .before .before
+
+  abbrev n : ℕ
+  n = states (sized roomy)
+
+  abbrev k : ℕ
+  k = letters (sized roomy)
+
+  abbrev finals : ℕ
+  finals = c .c .given .0 .0
+
+  abbrev from : ℕ
+  from = c .c .given .0 .1 .0
+
+  at-rows : Reached (patternFormat (room (begin roomy))) (bytes (begin roomy)) (n ∷ k ∷ finals ∷ []) (many (n * k) (setTest n) (startsFormat n)) from
+  at-rows = reached-item (at-finals roomy) (c .before .before .read-set .ensures) (c .c .given .1)
+
+-- ---- the rows are passed
+
+module _ (c : tie.After-d) where
+  abbrev has-finals : tie.After-c
+  has-finals = c .before .before .before .before
+
+  abbrev origin : tie.Start
+  origin = begin (roomy has-finals)
+
+  abbrev rows : List ℕ
+  rows = rowsFrom (bytes origin) (n has-finals) (k has-finals) (from has-finals)
+
+  at-x : Reached (patternFormat (room origin)) (bytes origin) (n has-finals ∷ k has-finals ∷ finals has-finals ∷ rows) (startsFormat (n has-finals)) (c .d .given .0 .1 .0)
+  at-x =
+      to-x (room origin) (bytes origin) (n has-finals) (k has-finals) (at-rows has-finals) (roomy has-finals .before .product .ensures) (c .before .before .pass-sets .ensures) (c .d .given .1)
+
+-- ---- X and Y are read
+
+module _ (c : tie.After-e) where
+  abbrev has-rows : tie.After-d
+  has-rows = c .before .before .before .before
+
+  abbrev head : tie.After-c
+  head = has-finals has-rows
+
+  at-y : Reached (patternFormat (room (origin has-rows))) (bytes (origin has-rows)) (n head ∷ k head ∷ finals head ∷ (rows has-rows ++ (c .e .given .0 .0 ∷ [])))
+      (item (setTest (n head)) (λ y. ended)) (c .e .given .0 .1 .0)
+  at-y = reached-item (at-x has-rows) (c .before .before .read-set2 .ensures) (c .e .given .1)
+
+module _ (c : tie.After-f) where
+  abbrev has-x : tie.After-e
+  has-x = c .before .before .before .before
+
+  abbrev source : tie.Start
+  source = origin (has-rows has-x)
+
+  at-end : Reached (patternFormat (room source)) (bytes source)
+      (n (head has-x) ∷ k (head has-x) ∷ finals (head has-x) ∷ ((rows (has-rows has-x) ++ (has-x .e .given .0 .0 ∷ [])) ++ (c .f .given .0 .0 ∷ []))) ended (c .f .given .0 .1 .0)
+  at-end = reached-item (at-y has-x) (c .before .before .read-set3 .ensures) (c .f .given .1)
+
+-- ---- the needs
+
+read-size-requires : tie.Need-read-size-requires
+read-size-requires c κs = search needs
+
+enum-known-a : tie.Need-enum-known-a
+enum-known-a c = search needs
+
+enum-told : tie.Need-enum-told
+enum-told c = search needs
+
+refused-requires : tie.Need-refused-requires
+refused-requires c κs = search needs
+
+returns : tie.Need-returns
+returns c =
+    let fault = c .before in
+    let read = fault .before .before in
+    let s = read .before .before in
+    goes-up (room s) (bytes s) (c .refused .ensures) (fault .enum-told .given .1) (stopped-item (to-states (room s) (bytes s)) (read .read-size .ensures) (fault .enum-told .given .1))
+
+read-size-requires-2 : tie.Need-read-size-requires-2
+read-size-requires-2 c κs = search needs
+
+enum-known-b : tie.Need-enum-known-b
+enum-known-b c = search needs
+
+enum-told-2 : tie.Need-enum-told-2
+enum-told-2 c = search needs
+
+refused-requires-2 : tie.Need-refused-requires-2
+refused-requires-2 c κs = search needs
+
+returns-2 : tie.Need-returns-2
+returns-2 c =
+    let fault = c .before in
+    let read = fault .before .before in
+    let one = read .before .before in
+    let s = one .before .before .before .before in
+    goes-up (room s) (bytes s) (c .refused2 .ensures) (fault .enum-told2 .given .1)
+    (stopped-item (reached-item (to-states (room s) (bytes s)) (one .before .before .read-size .ensures) (one .a .given .1)) (read .read-size2 .ensures) (fault .enum-told2 .given .1))
+
+index-requires : tie.Need-index-requires
+index-requires c κs = search needs
+
+index-requires-2 : tie.Need-index-requires-2
+index-requires-2 c κs = search needs
+
+product-requires : tie.Need-product-requires
+product-requires c κs =
+    sizes-fine (room (start c)) (bytes (start c)) (has-n c .before .before .read-size .ensures) (has-n c .a .given .1) (has-k c .before .before .read-size2 .ensures) (has-k c .b .given .1)
+    (c .before .index .ensures) (c .index2 .ensures)
+
+-- NO-ROOM
+returns-3 : tie.Need-returns-3
+returns-3 c =
+    let two = c .before .before in
+    stop-room (room (start two)) (bytes (start two)) (states two) (letters two) (at-room two) (c .before .product .ensures) (c .if1 .taken)
+
+read-set-requires : tie.Need-read-set-requires
+read-set-requires c κs = search needs
+
+enum-known-c : tie.Need-enum-known-c
+enum-known-c c = search needs
+
+enum-told-3 : tie.Need-enum-told-3
+enum-told-3 c = search needs
+
+refused-requires-3 : tie.Need-refused-requires-3
+refused-requires-3 c κs = search needs
+
+returns-4 : tie.Need-returns-4
+returns-4 c =
+    let fault = c .before in
+    let read = fault .before .before in
+    let s = begin (read .before) in
+    goes-up (room s) (bytes s) (c .refused3 .ensures) (fault .enum-told3 .given .1) (stopped-item (at-finals (read .before)) (read .read-set .ensures) (fault .enum-told3 .given .1))
+
+pass-sets-requires : tie.Need-pass-sets-requires
+pass-sets-requires c κs = search needs
+
+enum-known-d : tie.Need-enum-known-d
+enum-known-d c = search needs
+
+enum-told-4 : tie.Need-enum-told-4
+enum-told-4 c = search needs
+
+refused-requires-4 : tie.Need-refused-requires-4
+refused-requires-4 c κs = search needs
+
+returns-5 : tie.Need-returns-5
+returns-5 c =
+    let fault = c .before in
+    let read = fault .before .before in
+    let three = read .before .before in
+    let s = begin (roomy three) in
+    goes-up (room s) (bytes s) (c .refused4 .ensures) (fault .enum-told4 .given .1)
+    (stop-rows (room s) (bytes s) (n three) (k three) (at-rows three) (roomy three .before .product .ensures) (read .pass-sets .ensures) (fault .enum-told4 .given .1))
+
+read-set-requires-2 : tie.Need-read-set-requires-2
+read-set-requires-2 c κs = search needs
+
+enum-known-e : tie.Need-enum-known-e
+enum-known-e c = search needs
+
+enum-told-5 : tie.Need-enum-told-5
+enum-told-5 c = search needs
+
+refused-requires-5 : tie.Need-refused-requires-5
+refused-requires-5 c κs = search needs
+
+returns-6 : tie.Need-returns-6
+returns-6 c =
+    let fault = c .before in
+    let read = fault .before .before in
+    let four = read .before .before in
+    let s = origin four in
+    goes-up (room s) (bytes s) (c .refused5 .ensures) (fault .enum-told5 .given .1) (stopped-item (at-x four) (read .read-set2 .ensures) (fault .enum-told5 .given .1))
+
+read-set-requires-3 : tie.Need-read-set-requires-3
+read-set-requires-3 c κs = search needs
+
+enum-known-f : tie.Need-enum-known-f
+enum-known-f c = search needs
+
+enum-told-6 : tie.Need-enum-told-6
+enum-told-6 c = search needs
+
+refused-requires-6 : tie.Need-refused-requires-6
+refused-requires-6 c κs = search needs
+
+returns-7 : tie.Need-returns-7
+returns-7 c =
+    let fault = c .before in
+    let read = fault .before .before in
+    let five = read .before .before in
+    let s = origin (has-rows five) in
+    goes-up (room s) (bytes s) (c .refused6 .ensures) (fault .enum-told6 .given .1) (stopped-item (at-y five) (read .read-set3 .ensures) (fault .enum-told6 .given .1))
+
+-- TAIL
+returns-8 : tie.Need-returns-8
+returns-8 c = stopped-tail (at-end (c .before .before)) (c .if2 .taken)
+
+returns-9 : tie.Need-returns-9
+returns-9 c =
+    let six = c .before .before in
+    let four = has-rows (has-x six) in
+    let three = has-finals four in
+    let s = origin four in
+    all-read (room s) (bytes s) (rows four) (at-end six)
+    (rows-tabled (room s) (bytes s) (n three) (k three) (at-rows three) (roomy three .before .product .ensures) (four .before .before .pass-sets .ensures) (four .d .given .1))
+    (record { each = λ i. omega (arith, has-n (sized (roomy three)) .before .before .before .shared-slice-known .given i) }) (c .if2 .left)
+
+pub judge-spec : {M : Type 1} → statement M
+judge-spec =
+    tie.close
+    (tie.spec
+    read-size-requires
+    enum-known-a
+    enum-told
+    refused-requires
+    returns
+    read-size-requires-2
+    enum-known-b
+    enum-told-2
+    refused-requires-2
+    returns-2
+    index-requires
+    index-requires-2
+    product-requires
+    returns-3
+    read-set-requires
+    enum-known-c
+    enum-told-3
+    refused-requires-3
+    returns-4
+    pass-sets-requires
+    enum-known-d
+    enum-told-4
+    refused-requires-4
+    returns-5
+    read-set-requires-2
+    enum-known-e
+    enum-told-5
+    refused-requires-5
+    returns-6
+    read-set-requires-3
+    enum-known-f
+    enum-told-6
+    refused-requires-6
+    returns-7
+    returns-8
+    returns-9)

@@ -1,0 +1,43 @@
+-- What reading a pattern file answers, and what it leaves in the row buffer lent.
+--   FileOf room bytes P x y   the bytes are the file of the pattern P with the sets X and Y
+--   Reads bytes old r new     the reader's promise: the answer r, and the buffer `new` where it was `old`
+--   numberOf r, valuesOf r    document 01's number of an answer, and the values returned with it
+-- `sets old 0 rows` is the library's: the rows over the first entries of the old content.
+use Prim.Native.Nat.{ℕ, _*_}
+use mathlib.Core.List.{List, [], _∷_}
+use mathlib.Core.Path.{_≡_}
+use lib.ListN.{length}
+use lib.Seq.{sets}
+use Rattle.pattern.specs.Pattern.{Pattern, patternOf}
+use Rattle.numbers.specs.Format.{got, refused, fileReading}
+use Rattle.patternfile.specs.declared.PatternRead.{PatternRead}
+use Rattle.patternfile.specs.declared.PatternRead.the-variants.{Done, Refused}
+use Rattle.patternfile.specs.PatternFile.{numbersOf, patternFormat}
+
+pub record FileOf (room : ℕ) (bytes : List ℕ) (P : Pattern) (x y : ℕ) : Type 0 where
+  pub tabled : length (P .rows) ≡ P .states * P .letters
+  pub read : fileReading (patternFormat room) bytes ≡ got (numbersOf P x y) (length bytes)
+
+-- DONE: the rows are written, and the entries after them keep their content
+pub record ReadDone (bytes old : List ℕ) (n k finals x y : ℕ) (new : List ℕ) : Type 0 where
+  pub rows : List ℕ
+  pub file : FileOf (length old) bytes (patternOf n k finals rows) x y
+  pub written : new ≡ sets old 0 rows
+
+-- a refusal: the first fault by place, and every row as it was
+pub record ReadRefused (bytes old : List ℕ) (w place : ℕ) (new : List ℕ) : Type 0 where
+  pub fault : fileReading (patternFormat (length old)) bytes ≡ refused w place
+  pub unchanged : new ≡ old
+
+abbrev pub Reads : List ℕ → List ℕ → PatternRead → List ℕ → Type 0
+Reads bytes old (Done n k finals x y) new = ReadDone bytes old n k finals x y new
+Reads bytes old (Refused w place) new = ReadRefused bytes old w place new
+
+abbrev pub numberOf : PatternRead → ℕ
+numberOf (Done n k finals x y) = 7
+numberOf (Refused w place) = w
+
+-- n, k, finals, X, Y and the place
+abbrev pub valuesOf : PatternRead → List ℕ
+valuesOf (Done n k finals x y) = n ∷ k ∷ finals ∷ x ∷ y ∷ 0 ∷ []
+valuesOf (Refused w place) = 0 ∷ 0 ∷ 0 ∷ 0 ∷ 0 ∷ place ∷ []

@@ -1,0 +1,47 @@
+-- What writing a pattern file answers, and what it leaves in the byte buffer lent.
+--   writeTest P x y room     the tests, in document 01's order: 10, 11, 12, 14
+--   Writes P x y old r new   the writer's promise: the answer r, and the buffer `new` where it was `old`
+--   numberOf r, valueOf r    document 01's number of an answer, and the byte count returned with it
+use Prim.Native.Nat.{ℕ}
+use mathlib.Core.List.{List, [], _∷_}
+use mathlib.Core.Path.{_≡_}
+use lib.ListN.{length}
+use Rattle.verdict.specs.declared.Verdict.{Verdict}
+use Rattle.verdict.specs.declared.Verdict.the-variants.{Fine, Against}
+use Rattle.verdict.specs.Tests.{inOrder}
+use Rattle.pattern.specs.Pattern.{Pattern}
+use Rattle.pattern.specs.Tests.{patternTest, setTest}
+use Rattle.numbers.specs.Numbers.{Stored}
+use Rattle.numbers.specs.Format.{encodeAll}
+use Rattle.patternfile.specs.declared.Written.{Written}
+use Rattle.patternfile.specs.declared.Written.the-variants.{Done, Refused}
+use Rattle.patternfile.specs.PatternFile.{numbersOf, roomTest}
+
+-- the file of P with X and Y
+unfoldable pub fileBytes : Pattern → ℕ → ℕ → List ℕ
+fileBytes P x y = encodeAll (numbersOf P x y)
+
+unfoldable pub writeTest : Pattern → ℕ → ℕ → ℕ → Verdict
+writeTest P x y room = inOrder (patternTest P ∷ setTest (P .states) x ∷ setTest (P .states) y ∷ roomTest room (length (fileBytes P x y)) ∷ [])
+
+-- DONE: the file stands at the start of the buffer, and the bytes after it keep their content
+pub record WriteDone (P : Pattern) (x y : ℕ) (old : List ℕ) (count : ℕ) (new : List ℕ) : Type 0 where
+  pub allowed : writeTest P x y (length old) ≡ Fine
+  pub written : Stored old 0 (fileBytes P x y) count new
+
+-- a refusal: the first test that fails, and no byte changed
+pub record WriteRefused (P : Pattern) (x y : ℕ) (old : List ℕ) (w : ℕ) (new : List ℕ) : Type 0 where
+  pub against : writeTest P x y (length old) ≡ Against w
+  pub unchanged : new ≡ old
+
+abbrev pub Writes : Pattern → ℕ → ℕ → List ℕ → Written → List ℕ → Type 0
+Writes P x y old (Done count) new = WriteDone P x y old count new
+Writes P x y old (Refused w) new = WriteRefused P x y old w new
+
+abbrev pub numberOf : Written → ℕ
+numberOf (Done count) = 7
+numberOf (Refused w) = w
+
+abbrev pub valueOf : Written → ℕ
+valueOf (Done count) = count
+valueOf (Refused w) = 0

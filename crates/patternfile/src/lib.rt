@@ -1,0 +1,240 @@
+// The pattern file: n, k, finals, the n * k rows, X, Y; read and written.
+use numbers::Number;
+use verdict::Verdict;
+ghost use mathlib.Core.Path.{_≡_};
+ghost use Prim.Native.Nat.{_*_, _≤_};
+ghost use lib.ListN.{length};
+ghost use Rattle.pattern.specs.Pattern.{Sized, patternOf};
+ghost use Rattle.pattern.specs.Tests.{sizeTest, setTest};
+ghost use Rattle.numbers.specs.Numbers.{numberAt};
+ghost use Rattle.numbers.specs.Format.{heldTo, reading, many, ended};
+ghost use Rattle.patternfile.specs.Reader.{Reads};
+ghost use Rattle.patternfile.specs.Writer.{fileBytes, writeTest, Writes};
+ghost use Rattle.patternfile.specs.Inner.{Judges, passed, refusedBy, Filled};
+
+// What reading answers: the file's numbers, its rows being in the buffer lent; or a refusal's number and place.
+pub enum PatternRead {
+    Done {
+        states: usize,
+        letters: usize,
+        finals: u64,
+        x: u64,
+        y: u64,
+    },
+    Refused(u8, usize),
+}
+
+// What writing answers: how many bytes, or a refusal's number.
+pub enum Written {
+    Done(usize),
+    Refused(u8),
+}
+
+fn index(v: u64) -> usize
+    ensures { λ r. ⌜ r ≡ v ⌝ }
+{
+    v as usize
+}
+
+fn wide(v: usize) -> u64
+    ensures { λ r. ⌜ r ≡ v ⌝ }
+{
+    v as u64
+}
+
+fn product(states: usize, letters: usize) -> usize
+    requires { ⌜ Sized states letters ⌝ }
+    ensures { λ r. ⌜ r ≡ states * letters ⌝ }
+{
+    states * letters
+}
+
+fn read_size(bytes: &[u8], at: usize, most: usize) -> Number
+    ensures { λ r. ⌜ r ≡ heldTo (sizeTest most) at (numberAt (now (bytes .entry)) at) ⌝ }
+{
+    let a = numbers::read(bytes, at);
+    let Number::Value(v, next) = a else {
+        return a;
+    };
+    numbers::ruled(pattern::size_test(most, index(v)), at, v, next)
+}
+
+fn read_set(bytes: &[u8], at: usize, states: usize) -> Number
+    ensures { λ r. ⌜ r ≡ heldTo (setTest states) at (numberAt (now (bytes .entry)) at) ⌝ }
+{
+    let a = numbers::read(bytes, at);
+    let Number::Value(v, next) = a else {
+        return a;
+    };
+    numbers::ruled(pattern::set_test(states, v), at, v, next)
+}
+
+// Judges so many sets from a place on.
+fn pass_sets(bytes: &[u8], at: usize, states: usize, count: usize) -> Number
+    ensures { λ r. ⌜ r ≡ passed count (reading (many count (setTest states) ended) (now (bytes .entry)) at) ⌝ }
+{
+    let mut left = count;
+    let mut place = at;
+    while 0 < left {
+        let a = read_set(bytes, place, states);
+        let Number::Value(_, next) = a else {
+            return a;
+        };
+        place = next;
+        left = left - 1;
+    }
+    Number::Value(wide(count), place)
+}
+
+fn refused(a: Number) -> PatternRead
+    ensures { λ r. ⌜ r ≡ refusedBy a ⌝ }
+{
+    match a {
+        Number::Value(_, next) => PatternRead::Refused(0, next),
+        Number::Fault(why, place) => PatternRead::Refused(why, place),
+    }
+}
+
+// The first pass: the whole file, for a row buffer of so many entries.
+fn judge(bytes: &[u8], room: usize) -> PatternRead
+    ensures { λ r. ⌜ Judges (now (bytes .entry)) room r ⌝ }
+{
+    let a = read_size(bytes, 0, 64);
+    let Number::Value(n, at_letters) = a else {
+        return refused(a);
+    };
+    let b = read_size(bytes, at_letters, 32);
+    let Number::Value(k, at_finals) = b else {
+        return refused(b);
+    };
+    let states = index(n);
+    let letters = index(k);
+    let count = product(states, letters);
+    if room < count {
+        return PatternRead::Refused(14, at_finals);
+    }
+    let c = read_set(bytes, at_finals, states);
+    let Number::Value(finals, at_rows) = c else {
+        return refused(c);
+    };
+    let d = pass_sets(bytes, at_rows, states, count);
+    let Number::Value(_, at_x) = d else {
+        return refused(d);
+    };
+    let e = read_set(bytes, at_x, states);
+    let Number::Value(x, at_y) = e else {
+        return refused(e);
+    };
+    let f = read_set(bytes, at_y, states);
+    let Number::Value(y, end) = f else {
+        return refused(f);
+    };
+    if end < bytes.len() {
+        return PatternRead::Refused(22, end);
+    }
+    PatternRead::Done {
+        states: states,
+        letters: letters,
+        finals: finals,
+        x: x,
+        y: y,
+    }
+}
+
+// The second pass: so many numbers from a place on go into the rows, as far as they can be read.
+fn fill(bytes: &[u8], at: usize, rows: &mut [u64], count: usize)
+    requires { ⌜ count ≤ length (now rows) ⌝ }
+    ensures { λ _. ⌜ Filled (now (bytes .entry)) at count (now (rows .entry)) (now (rows .exit)) ⌝ }
+{
+    let mut i: usize = 0;
+    let mut place = at;
+    while i < count {
+        let a = numbers::read(bytes, place);
+        let Number::Value(v, next) = a else {
+            return;
+        };
+        rows[i] = v;
+        place = next;
+        i = i + 1;
+    }
+}
+
+// Reads a pattern file. n and k are one byte each, so the rows stand two bytes and the finals' bytes behind the start.
+pub fn read(bytes: &[u8], rows: &mut [u64]) -> PatternRead
+    ensures { λ r. ⌜ Reads (now (bytes .entry)) (now (rows .entry)) r (now (rows .exit)) ⌝ }
+{
+    let answer = judge(bytes, rows.len());
+    let PatternRead::Done {
+        states,
+        letters,
+        finals,
+        x: _,
+        y: _,
+    } = answer
+    else {
+        return answer;
+    };
+    let at = 2 + numbers::size(finals);
+    fill(bytes, at, rows, product(states, letters));
+    answer
+}
+
+// How many bytes the file takes.
+fn file_size(states: usize, letters: usize, finals: u64, rows: &[u64], x: u64, y: u64) -> usize
+    ensures { λ r. ⌜ r ≡ length (fileBytes (patternOf states letters finals (now (rows .entry))) x y) ⌝ }
+{
+    let head = [wide(states), wide(letters), finals];
+    let tail = [x, y];
+    numbers::size_all(&head) + numbers::size_all(rows) + numbers::size_all(&tail)
+}
+
+// The writer's tests in their order, for a byte buffer of so many bytes.
+fn write_test(
+    states: usize,
+    letters: usize,
+    finals: u64,
+    rows: &[u64],
+    x: u64,
+    y: u64,
+    room: usize,
+) -> Verdict
+    ensures { λ r. ⌜ r ≡ writeTest (patternOf states letters finals (now (rows .entry))) x y room ⌝ }
+{
+    let a = pattern::pattern_test(states, letters, finals, rows);
+    let Verdict::Fine = a else {
+        return a;
+    };
+    let b = pattern::set_test(states, x);
+    let Verdict::Fine = b else {
+        return b;
+    };
+    let c = pattern::set_test(states, y);
+    let Verdict::Fine = c else {
+        return c;
+    };
+    verdict::need(file_size(states, letters, finals, rows, x, y) <= room, 14)
+}
+
+// Writes a pattern file.
+pub fn write(
+    states: usize,
+    letters: usize,
+    finals: u64,
+    rows: &[u64],
+    x: u64,
+    y: u64,
+    out: &mut [u8],
+) -> Written
+    ensures { λ r. ⌜ Writes (patternOf states letters finals (now (rows .entry))) x y (now (out .entry)) r (now (out .exit)) ⌝ }
+{
+    let test = write_test(states, letters, finals, rows, x, y, out.len());
+    if let Verdict::Against(why) = test {
+        return Written::Refused(why);
+    }
+    let head = [wide(states), wide(letters), finals];
+    let tail = [x, y];
+    let at_rows = numbers::write_all(out, 0, &head);
+    let at_starts = numbers::write_all(out, at_rows, rows);
+    let end = numbers::write_all(out, at_starts, &tail);
+    Written::Done(end)
+}
