@@ -33,9 +33,14 @@ add-result c =
     let headed = c .before in
     let widened = headed .before .before in
     let start = widened .before .before .before in
-    omega
-    (arith, c .size-all2 .ensures, all-ten (start .args .rows .now), start .good, headed .size-all .ensures,
-      all-ten (widened .before .wide .result ∷ widened .wide2 .result ∷ start .args .finals ∷ []))
+    omega (
+      arith,
+      c .size-all2 .ensures,
+      all-ten (start .args .rows .now),
+      start .good,
+      headed .size-all .ensures,
+      all-ten (widened .before .wide .result ∷ widened .wide2 .result ∷ start .args .finals ∷ []),
+    )
 
 slice-aggregate-size-all-2 : tie.Need-slice-aggregate-size-all-2
 slice-aggregate-size-all-2 c = search needs
@@ -49,9 +54,16 @@ add-result-2 c =
     let headed = rowed .before in
     let widened = headed .before .before in
     let start = widened .before .before .before in
-    omega
-    (arith, c .size-all3 .ensures, all-ten (start .args .x ∷ start .args .y ∷ []), rowed .size-all2 .ensures, all-ten (start .args .rows .now), start .good,
-      headed .size-all .ensures, all-ten (widened .before .wide .result ∷ widened .wide2 .result ∷ start .args .finals ∷ []))
+    omega (
+      arith,
+      c .size-all3 .ensures,
+      all-ten (start .args .x ∷ start .args .y ∷ []),
+      rowed .size-all2 .ensures,
+      all-ten (start .args .rows .now),
+      start .good,
+      headed .size-all .ensures,
+      all-ten (widened .before .wide .result ∷ widened .wide2 .result ∷ start .args .finals ∷ []),
+    )
 
 returns : tie.Need-returns
 returns c =
