@@ -3,6 +3,8 @@ ghost use Rattle.pattern.specs.Pattern.{patternOf};
 ghost use Rattle.pressbadger.specs.Host.{Judges};
 use pattern::Judged;
 
+pub mod files; // files.rt: pattern files, read and written
+
 // The answer to `pb_judge`.
 #[repr(C)]
 pub struct PbJudged {
