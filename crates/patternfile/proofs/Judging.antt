@@ -16,9 +16,9 @@ use Rattle.numbers.specs.Format.{ended, item, many, Reading, got, refused, held
 use Rattle.numbers.proofs.RoundTrip.{fault-value}
 use Rattle.numbers.proofs.Formats.{held, file-write-after-read}
 use Rattle.numbers.proofs.Parts.{many-length}
-use Rattle.numbers.proofs.Steps.{Reached, reached-first, reached-item, reached-gate, reached-many, reached-end, stopped-item, stopped-gate, stopped-many, stopped-tail}
+use Rattle.numbers.proofs.Steps.{Reached, reached-first, reached-item, reached-gate, reached-many, reached-end, stopped-gate, stopped-many}
 use Rattle.patternfile.specs.declared.PatternRead.{PatternRead}
-use Rattle.patternfile.specs.declared.PatternRead.the-variants.{Done, Refused}
+use Rattle.patternfile.specs.declared.PatternRead.the-variants.{Done}
 use Rattle.patternfile.specs.PatternFile.{roomTest, startsFormat, afterLetters, patternFormat}
 use Rattle.patternfile.specs.Inner.{Judges, passed, refusedBy}
 
@@ -62,7 +62,7 @@ module _ (room : ℕ) (s : List ℕ) where
   to-states = reached-first (patternFormat room) s
 
   module _ {a b : Number} {n k at₁ at₂ : ℕ} (ea : a ≡ heldTo (sizeTest 64) 0 (numberAt s 0)) (qa : a ≡ Value n at₁) (eb : b ≡ heldTo (sizeTest 32) at₁ (numberAt s at₁)) (qb : b ≡ Value k at₂)
-    {states letters : ℕ} (es : states ≡ n) (el : letters ≡ k) where
+      {states letters : ℕ} (es : states ≡ n) (el : letters ≡ k) where
     pub sizes-fine : Sized states letters
     sizes-fine = rw (es, el) (sized-fine (held (sizeTest 64) 0 (numberAt s 0) (sym ea ∙ qa) .range) (held (sizeTest 32) at₁ (numberAt s at₁) (sym eb ∙ qb) .range))
 
@@ -77,7 +77,7 @@ module _ (room : ℕ) (s : List ℕ) where
     to-finals h = reached-gate g (room-enough room (n * k) (rw c at h))
 
   module _ {us : List ℕ} (n k : ℕ) {at count : ℕ} (g : Reached (patternFormat room) s us (many (n * k) (setTest n) (startsFormat n)) at) (c : count ≡ n * k)
-    {d : Number} (ed : d ≡ passed count (reading (many count (setTest n) ended) s at)) where
+      {d : Number} (ed : d ≡ passed count (reading (many count (setTest n) ended) s at)) where
     passed-all : d ≡ passed (n * k) (reading (many (n * k) (setTest n) ended) s at)
     passed-all = ed ∙ ap (λ (m : ℕ). passed m (reading (many m (setTest n) ended) s at)) c
 

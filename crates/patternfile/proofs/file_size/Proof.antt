@@ -1,12 +1,8 @@
 -- `patternfile::file_size` is the sizes of the file's three parts.
-use Prim.Native.Nat.{ℕ, _+_, _*_, _≤_}
 use mathlib.Core.List.{[], _∷_}
-use mathlib.Core.Path.{_≡_, ap, _∙_}
 use borrow.Author.Needs.{needs}
 use native.Mathlib.Omega.{arith}
-use lib.ListN.{length}
 use Rattle.pattern.specs.Pattern.{patternOf}
-use Rattle.numbers.specs.Format.{encodeAll}
 use Rattle.numbers.proofs.ListLoops.{all-ten}
 use Rattle.patternfile.proofs.Storing.{sizes-add}
 use Rattle.patternfile.proofs.file_size.Statement.{statement}
@@ -33,9 +29,14 @@ add-result c =
     let headed = c .before in
     let widened = headed .before .before in
     let start = widened .before .before .before in
-    omega
-    (arith, c .size-all2 .ensures, all-ten (start .args .rows .now), start .good, headed .size-all .ensures,
-      all-ten (widened .before .wide .result ∷ widened .wide2 .result ∷ start .args .finals ∷ []))
+    omega (
+      arith,
+      c .size-all2 .ensures,
+      all-ten (start .args .rows .now),
+      start .good,
+      headed .size-all .ensures,
+      all-ten (widened .before .wide .result ∷ widened .wide2 .result ∷ start .args .finals ∷ []),
+    )
 
 slice-aggregate-size-all-2 : tie.Need-slice-aggregate-size-all-2
 slice-aggregate-size-all-2 c = search needs
@@ -49,9 +50,16 @@ add-result-2 c =
     let headed = rowed .before in
     let widened = headed .before .before in
     let start = widened .before .before .before in
-    omega
-    (arith, c .size-all3 .ensures, all-ten (start .args .x ∷ start .args .y ∷ []), rowed .size-all2 .ensures, all-ten (start .args .rows .now), start .good,
-      headed .size-all .ensures, all-ten (widened .before .wide .result ∷ widened .wide2 .result ∷ start .args .finals ∷ []))
+    omega (
+      arith,
+      c .size-all3 .ensures,
+      all-ten (start .args .x ∷ start .args .y ∷ []),
+      rowed .size-all2 .ensures,
+      all-ten (start .args .rows .now),
+      start .good,
+      headed .size-all .ensures,
+      all-ten (widened .before .wide .result ∷ widened .wide2 .result ∷ start .args .finals ∷ []),
+    )
 
 returns : tie.Need-returns
 returns c =
