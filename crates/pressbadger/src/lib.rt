@@ -5,6 +5,7 @@ use pattern::Judged;
 
 pub mod checks; // checks.rt: evidence checked
 pub mod files; // files.rt: pattern files, read and written
+pub mod lists; // lists.rt: the comparison over lists of numbers
 
 // The answer to `pb_judge`.
 #[repr(C)]
