@@ -3,6 +3,9 @@ ghost use Rattle.pattern.specs.Pattern.{patternOf};
 ghost use Rattle.pressbadger.specs.Host.{Judges};
 use pattern::Judged;
 
+pub mod checks; // checks.rt: evidence checked
+pub mod files; // files.rt: pattern files, read and written
+
 // The answer to `pb_judge`.
 #[repr(C)]
 pub struct PbJudged {

@@ -10,7 +10,10 @@ ghost use Rattle.pattern.specs.Tests.{patternTest};
 ghost use Rattle.pattern.specs.Language.{next};
 ghost use Rattle.congruence.specs.Congruence.{Congruent, Listed};
 ghost use Rattle.congruence.specs.Closing.{Closes};
+ghost use Rattle.numbers.specs.Numbers.{numberAt};
 ghost use Rattle.probes.specs.Probes.{Probes, Says, stateTest, nextTest, sidesTest};
+ghost use Rattle.probes.specs.Numbers.{probedNumber, WritesNumber};
+use numbers::Number;
 use sets::States;
 use verdict::Verdict;
 
@@ -19,6 +22,14 @@ use verdict::Verdict;
 pub struct Probed {
     pub answer: u8,
     pub value: u64,
+}
+
+// 7 with a number and the place after it, or a fault with its place.
+#[repr(C)]
+pub struct ProbedNumber {
+    pub answer: u8,
+    pub value: u64,
+    pub place: usize,
 }
 
 #[no_mangle]
@@ -147,5 +158,50 @@ pub extern "C" fn probe_congruent(lefts: &[u64], rights: &[u64], a: u64, b: u64)
     Probed {
         answer: 16,
         value: 0,
+    }
+}
+
+// The number at a place of some bytes.
+#[no_mangle]
+pub extern "C" fn probe_read_number(bytes: &[u8], at: usize) -> ProbedNumber
+    ensures { λ r. ⌜ r ≡ probedNumber (numberAt (now (bytes .entry)) at) ⌝ }
+{
+    let number = numbers::read(bytes, at);
+    match number {
+        Number::Value(value, next) => ProbedNumber {
+            answer: 7,
+            value: value,
+            place: next,
+        },
+        Number::Fault(why, place) => ProbedNumber {
+            answer: why,
+            value: 0,
+            place: place,
+        },
+    }
+}
+
+// A number put at a place of a lent buffer: 7 and the place after it, or 14 where it does not fit.
+#[no_mangle]
+pub extern "C" fn probe_write_number(out: &mut [u8], at: usize, value: u64) -> Probed
+    ensures { λ r. ⌜ WritesNumber (now (out .entry)) at value r (now (out .exit)) ⌝ }
+{
+    let size = numbers::size(value);
+    if out.len() < at {
+        return Probed {
+            answer: 14,
+            value: 0,
+        };
+    }
+    if out.len() - at < size {
+        return Probed {
+            answer: 14,
+            value: 0,
+        };
+    }
+    let next = numbers::write(out, at, value);
+    Probed {
+        answer: 7,
+        value: next as u64,
     }
 }

@@ -1,0 +1,6 @@
+-- Laws that belong to no one function.
+pub mod Validity
+pub mod Searching
+pub mod Meaning
+pub mod Determined
+pub mod Examples
