@@ -1,7 +1,8 @@
 -- What reading a pattern file answers, and what it leaves in the row buffer lent.
---   FileOf room bytes P x y   the bytes are the file of the pattern P with the sets X and Y
---   Reads bytes old r new     the reader's promise: the answer r, and the buffer `new` where it was `old`
---   numberOf r, valuesOf r    document 01's number of an answer, and the values returned with it
+--   FileOf room bytes P x y   the bytes are the file of the pattern P with the sets X and Y (`accepted-valid`, `file-of`)
+--   Reads bytes old r new     the reader's promise: the answer r, and the buffer `new` where it was `old`; nothing is left open
+--                             (`reader-determined`), what is accepted is valid (`read-valid`), and a refusal stands where document 01 says (`refusal-place`)
+--   numberOf r, valuesOf r    document 01's number of an answer (`read-number`), and the values returned with it
 -- `sets old 0 rows` is the library's: the rows over the first entries of the old content.
 use Prim.Native.Nat.{ℕ, _*_}
 use mathlib.Core.List.{List, [], _∷_}
