@@ -1,0 +1,2 @@
+-- What `compare` prints; then what only the inner functions cite.
+pub mod Inner

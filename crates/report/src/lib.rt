@@ -1,0 +1,97 @@
+// The exact bytes that `compare` prints, put into a lent buffer.
+ghost use mathlib.Core.List.{_∷_, [], _++_, map};
+ghost use mathlib.Core.Path.{_≡_};
+ghost use Prim.Native.Nat.{_+_, _≤_};
+ghost use lib.ListN.{length};
+ghost use Rattle.text.specs.Text.{Put, word, decimal, spaced, line};
+ghost use Rattle.events.specs.Events.{eventName};
+ghost use Rattle.report.specs.Inner.{pairLines};
+use events::put_name;
+use text::put_byte;
+use text::put_bytes;
+use text::put_decimal;
+use text::put_number;
+
+// Numbers, each with a space in front.
+fn put_numbers(out: &mut [u8], at: usize, numbers: &[u64]) -> usize
+    requires { ⌜ at + length (spaced (map decimal (now numbers))) ≤ length (now out) ⌝ }
+    ensures { λ r. ⌜ Put (now (out .entry)) at (spaced (map decimal (now (numbers .entry)))) r (now (out .exit)) ⌝ }
+{
+    let mut place = at;
+    let mut i: usize = 0;
+    while i < numbers.len() {
+        place = put_number(out, place, numbers[i]);
+        i = i + 1;
+    }
+    place
+}
+
+// The first line: a name and its numbers.
+fn put_head(out: &mut [u8], name: &[u8], numbers: &[u64]) -> usize
+    requires { ⌜ length (line (now name ∷ map decimal (now numbers))) ≤ length (now out) ⌝ }
+    ensures { λ r. ⌜ Put (now (out .entry)) 0 (line (now (name .entry) ∷ map decimal (now (numbers .entry)))) r (now (out .exit)) ⌝ }
+{
+    let first = put_bytes(out, 0, name);
+    let last = put_numbers(out, first, numbers);
+    put_byte(out, last, b'\n')
+}
+
+fn put_record(out: &mut [u8], at: usize, left: u64, right: u64) -> usize
+    requires { ⌜ at + length (line (decimal left ∷ decimal right ∷ [])) ≤ length (now out) ⌝ }
+    ensures { λ r. ⌜ Put (now (out .entry)) at (line (decimal left ∷ decimal right ∷ [])) r (now (out .exit)) ⌝ }
+{
+    let first = put_decimal(out, at, left);
+    let last = put_number(out, first, right);
+    put_byte(out, last, b'\n')
+}
+
+// A line for each record.
+fn put_records(out: &mut [u8], at: usize, lefts: &[u64], rights: &[u64]) -> usize
+    requires { ⌜ length (now lefts) ≡ length (now rights) ⌝ }
+    requires { ⌜ at + length (pairLines (now lefts) (now rights)) ≤ length (now out) ⌝ }
+    ensures { λ r. ⌜ Put (now (out .entry)) at (pairLines (now (lefts .entry)) (now (rights .entry))) r (now (out .exit)) ⌝ }
+{
+    let mut place = at;
+    let mut i: usize = 0;
+    while i < lefts.len() {
+        place = put_record(out, place, lefts[i], rights[i]);
+        i = i + 1;
+    }
+    place
+}
+
+// A name with a space in front, as the later ones of a line have it.
+fn put_event(out: &mut [u8], at: usize, letter: u8) -> usize
+    requires { ⌜ at + length (word " " ++ eventName letter) ≤ length (now out) ⌝ }
+    ensures { λ r. ⌜ Put (now (out .entry)) at (word " " ++ eventName letter) r (now (out .exit)) ⌝ }
+{
+    let place = put_byte(out, at, b' ');
+    put_name(out, place, letter)
+}
+
+// Names, each with a space in front.
+fn put_events(out: &mut [u8], at: usize, letters: &[u8]) -> usize
+    requires { ⌜ at + length (spaced (map eventName (now letters))) ≤ length (now out) ⌝ }
+    ensures { λ r. ⌜ Put (now (out .entry)) at (spaced (map eventName (now (letters .entry)))) r (now (out .exit)) ⌝ }
+{
+    let mut place = at;
+    let mut i: usize = 0;
+    while i < letters.len() {
+        place = put_event(out, place, letters[i]);
+        i = i + 1;
+    }
+    place
+}
+
+// One line of event names; an empty line for the empty sequence.
+fn put_sequence(out: &mut [u8], at: usize, sequence: &[u8]) -> usize
+    requires { ⌜ at + length (line (map eventName (now sequence))) ≤ length (now out) ⌝ }
+    ensures { λ r. ⌜ Put (now (out .entry)) at (line (map eventName (now (sequence .entry)))) r (now (out .exit)) ⌝ }
+{
+    if sequence.len() == 0 {
+        return put_byte(out, at, b'\n');
+    }
+    let first = put_name(out, at, sequence[0]);
+    let last = put_events(out, first, &sequence[1..]);
+    put_byte(out, last, b'\n')
+}
