@@ -2,11 +2,14 @@
 use mathlib.Core.Path.{_≡_, refl}
 use mathlib.Core.Logic.{_↔_}
 use mathlib.Core.Bool.{and-eq-true-iff}
-use Prim.Native.Nat.{ℕ, _≤_}
+use mathlib.Core.List.{List}
+use Prim.Native.Nat.{ℕ, _≤_, _<_}
+use lib.ListN.{length, getD}
 use lib.Dec.{leb, eqb}
 use borrow.Author.Tests.{leb-true, le-leb, eqb-true, eq-eqb}
 use Rattle.verdict.specs.declared.Verdict.the-variants.{Fine}
 use Rattle.verdict.proofs.Ordered.{need-holds, need-fine, order-fine}
+use Rattle.sets.specs.Sets.{Good}
 use Rattle.pattern.proofs.Validity.{set-fine, sets-fine, shape-fine, masks-fine}
 use Rattle.evidence.specs.Evidence.{Offer, ValidOffer, listTest, pairsTest, checkTest}
 
@@ -17,37 +20,40 @@ list-fine lefts rights = (
   λ (p, q). need-holds _ 16 (rw (le-leb lefts 1024 p, eq-eqb lefts rights q) refl),
 )
 
+-- 12 for X, Y and the pairs
+pairs-fine : (n x y : ℕ) (lefts rights : List ℕ) → (pairsTest n x y lefts rights ≡ Fine)
+    ↔ (Good n x × Good n y × ((i : ℕ) → i < length lefts → Good n (getD lefts i 0)) × ((i : ℕ) → i < length rights → Good n (getD rights i 0)))
+unfolding pairsTest
+pairs-fine n x y lefts rights = (
+  λ e. let (p, (q, (l, (r, _)))) = order-fine _ .0 e in (set-fine n x .0 p, set-fine n y .0 q, sets-fine n lefts .0 l, sets-fine n rights .0 r),
+  λ (p, q, l, r). order-fine _ .1 (set-fine n x .1 p, (set-fine n y .1 q, (sets-fine n lefts .1 l, (sets-fine n rights .1 r, tt)))),
+)
+
 pub offer-valid : (o : Offer) → (checkTest o ≡ Fine) ↔ ValidOffer o
-unfolding checkTest pairsTest
+unfolding checkTest
 offer-valid o = (to, fro)
   where
     to : checkTest o ≡ Fine → ValidOffer o
     to e =
-        let (shape, (list, (masks, (pairs, _)))) = order-fine _ .0 e in
-        let (x, (y, (lefts, (rights, _)))) = order-fine _ .0 pairs in
-        let (sized, tabled) = shape-fine (o .pattern) .0 shape in
-        let (finals, rows) = masks-fine (o .pattern) .0 masks in
-        let (fit, match) = list-fine _ _ .0 list in
+        let all = order-fine _ .0 e in
+        let (sized, tabled) = shape-fine (o .pattern) .0 search in
+        let (finals, rows) = masks-fine (o .pattern) .0 search in
+        let (fit, match) = list-fine (length (o .lefts)) (length (o .rights)) .0 search in
+        let (x, y, lefts, rights) = pairs-fine (o .pattern .states) (o .x) (o .y) (o .lefts) (o .rights) .0 search in
         record {
           pattern = record { sized = sized; tabled = tabled; finals-good = finals; rows-good = rows };
           pairs-fit = fit;
           sides-match = match;
-          x-good = set-fine _ _ .0 x;
-          y-good = set-fine _ _ .0 y;
-          lefts-good = sets-fine _ _ .0 lefts;
-          rights-good = sets-fine _ _ .0 rights;
+          x-good = x;
+          y-good = y;
+          lefts-good = lefts;
+          rights-good = rights;
         }
 
     fro : ValidOffer o → checkTest o ≡ Fine
     fro v =
-        let pairs : pairsTest (o .pattern .states) (o .x) (o .y) (o .lefts) (o .rights) ≡ Fine = order-fine _ .1 (set-fine _ _ .1 (v .x-good), (set-fine _ _ .1 (v .y-good), (sets-fine _ _ .1 (v .lefts-good), (sets-fine _ _ .1 (v .rights-good), tt)))) in
-        order-fine _ .1 (
-          shape-fine (o .pattern) .1 (v .pattern .sized, v .pattern .tabled),
-          (
-            list-fine _ _ .1 (v .pairs-fit, v .sides-match),
-            (
-              masks-fine (o .pattern) .1 (v .pattern .finals-good, v .pattern .rows-good),
-              (pairs, tt),
-            ),
-          ),
-        )
+        let shape = shape-fine (o .pattern) .1 (v .pattern .sized, v .pattern .tabled) in
+        let list = list-fine (length (o .lefts)) (length (o .rights)) .1 (v .pairs-fit, v .sides-match) in
+        let masks = masks-fine (o .pattern) .1 (v .pattern .finals-good, v .pattern .rows-good) in
+        let pairs = pairs-fine (o .pattern .states) (o .x) (o .y) (o .lefts) (o .rights) .1 (v .x-good, v .y-good, v .lefts-good, v .rights-good) in
+        order-fine _ .1 (search)

@@ -6,9 +6,10 @@ pub mod TenBytes
 pub mod Examples
 pub mod ReaderLoop
 pub mod WriterLoops
+pub mod Puts
 pub mod ListLoops
-pub mod Determined
 pub mod Formats
 pub mod Parts
 pub mod Steps
 pub mod Reach
+pub mod Places

@@ -1,32 +1,15 @@
 -- The loops over a list of numbers: counting their bytes, and putting them.
-use Prim.Native.Nat.{ℕ, suc, _+_, _*_, _<_, _≤_}
+use Prim.Native.Nat.{ℕ, _+_, _*_, _<_, _≤_}
 use mathlib.Core.List.{List, [], _∷_, _++_}
 use mathlib.Core.Path.{_≡_, refl, sym, ap, _∙_}
-use native.Mathlib.Nat.{add-zero}
 use native.Mathlib.Numerals.{add-one}
 use native.Mathlib.Omega.{arith}
-use lib.ListN.{length, drop, getD, set, length-append, drop-of-length-le}
-use lib.Seq.{sets, length-sets, drop-cons}
+use lib.ListN.{length, drop, getD, length-append, drop-of-length-le}
+use lib.Seq.{sets, drop-cons}
 use Rattle.numbers.specs.Numbers.{encode, Stored}
 use Rattle.numbers.specs.Format.{encodeAll}
 use Rattle.numbers.proofs.TenBytes.{encode-ten}
-
-pub sets-append : (l : List ℕ) (i : ℕ) (a b : List ℕ) → sets l i (a ++ b) ≡ sets (sets l i a) (i + length a) b
-sets-append l i [] b = ap (λ (n : ℕ). sets l n b) (sym (add-zero i))
-sets-append l i (x ∷ a) b =
-    let e : suc i + length a ≡ i + suc (length a) = omega arith in
-    sets-append (set l i x) (suc i) a b ∙ ap (λ (n : ℕ). sets (sets (set l i x) (suc i) a) n b) e
-
-pub stored-length : {old new bytes : List ℕ} {at next : ℕ} → Stored old at bytes next new → length new ≡ length old
-stored-length {old} {bytes = bytes} {at = at} s = ap length (s .stored) ∙ length-sets old at bytes
-
--- putting one part and then another is putting both
-pub stored-then : {old mid new a b : List ℕ} {at next end : ℕ} → Stored old at a next mid → Stored mid next b end new → Stored old at (a ++ b) end new
-stored-then {old} {mid} {new} {a} {b} {at} s t =
-    record {
-      after = omega (arith, s .after, t .after, length-append a b);
-      stored = t .stored ∙ rw (s .stored, s .after) (sym (sets-append old at a b));
-    }
+use Rattle.numbers.proofs.Puts.{sets-append, stored-length}
 
 -- ten bytes for each number at most
 pub all-ten : (vs : List ℕ) → length (encodeAll vs) ≤ 10 * length vs

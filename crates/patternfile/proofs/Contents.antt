@@ -1,23 +1,23 @@
 -- What the numbers of a file are: those of a valid pattern and of two sets of its states, and no others.
 use Prim.Native.Nat.{ℕ, zero, suc, _+_, _*_, _^_, _<_, _≤_}
 use mathlib.Core.List.{List, [], _∷_, _++_}
-use mathlib.Core.Path.{_≡_, refl, sym, ap, _∙_, subst}
+use mathlib.Core.Path.{_≡_, ap, _∙_, subst}
 use native.Mathlib.Nat.{lt-of-lt-of-le}
 use native.Mathlib.Omega.{arith}
 use lib.Dec.{leb}
-use lib.ListN.{length, take, drop, getD}
+use lib.ListN.{length, drop, getD}
 use lib.Pow.{pow-mono}
 use lib.Seq.{take-at, drop-at, drop-append-seam}
 use borrow.Author.Tests.{leb-true}
 use Rattle.verdict.specs.declared.Verdict.{Verdict}
-use Rattle.verdict.specs.declared.Verdict.the-variants.{Fine, Against}
+use Rattle.verdict.specs.declared.Verdict.the-variants.{Fine}
 use Rattle.verdict.proofs.Ordered.{need-fine}
 use Rattle.sets.specs.Sets.{Good}
-use Rattle.pattern.specs.Pattern.{Pattern, Sized, Valid}
-use Rattle.pattern.specs.Tests.{sizeTest, setTest}
+use Rattle.pattern.specs.Pattern.{Pattern, Valid}
+use Rattle.pattern.specs.Tests.{setTest}
 use Rattle.pattern.proofs.Validity.{size-fine, sized-fine, set-fine}
 use Rattle.numbers.specs.Numbers.{encode, AreBytes}
-use Rattle.numbers.specs.Format.{Format, ended, item, many, got, reading, encodeAll, Fits}
+use Rattle.numbers.specs.Format.{ended, item, many, got, reading, encodeAll, Fits}
 use Rattle.numbers.proofs.Groups.{one-byte}
 use Rattle.numbers.proofs.Formats.{IsFile, reading-after-write, file-write-after-read}
 use Rattle.numbers.proofs.Parts.{FitsMany, fits-many, many-fits, encode-append}

@@ -16,9 +16,9 @@ use Rattle.numbers.specs.Format.{ended, item, many, Reading, got, refused, held
 use Rattle.numbers.proofs.RoundTrip.{fault-value}
 use Rattle.numbers.proofs.Formats.{held, file-write-after-read}
 use Rattle.numbers.proofs.Parts.{many-length}
-use Rattle.numbers.proofs.Steps.{Reached, reached-first, reached-item, reached-gate, reached-many, reached-end, stopped-item, stopped-gate, stopped-many, stopped-tail}
+use Rattle.numbers.proofs.Steps.{Reached, reached-first, reached-item, reached-gate, reached-many, reached-end, stopped-gate, stopped-many}
 use Rattle.patternfile.specs.declared.PatternRead.{PatternRead}
-use Rattle.patternfile.specs.declared.PatternRead.the-variants.{Done, Refused}
+use Rattle.patternfile.specs.declared.PatternRead.the-variants.{Done}
 use Rattle.patternfile.specs.PatternFile.{roomTest, startsFormat, afterLetters, patternFormat}
 use Rattle.patternfile.specs.Inner.{Judges, passed, refusedBy}
 

@@ -4,3 +4,9 @@ pub mod Judging
 pub mod Contents
 pub mod Filling
 pub mod Storing
+pub mod Determined
+pub mod RoundTrip
+pub mod Places
+pub mod Returned
+pub mod Longest
+pub mod Examples

@@ -4,21 +4,18 @@ use mathlib.Core.List.{List, [], _∷_, _++_}
 use mathlib.Core.Path.{_≡_, refl, sym, ap, _∙_}
 use native.Mathlib.Omega.{arith}
 use lib.ListN.{length, length-append}
-use lib.Dec.{leb}
 use borrow.Author.Tests.{leb-true}
 use Rattle.verdict.specs.declared.Verdict.{Verdict}
 use Rattle.verdict.specs.declared.Verdict.the-variants.{Fine}
-use Rattle.verdict.specs.Tests.{inOrder}
 use Rattle.verdict.proofs.Ordered.{need-fine, order-fine}
 use Rattle.sets.specs.Sets.{Good}
-use Rattle.pattern.specs.Pattern.{Pattern, Valid, patternOf}
-use Rattle.pattern.specs.Tests.{patternTest, setTest}
+use Rattle.pattern.specs.Pattern.{Pattern, Valid}
 use Rattle.pattern.proofs.Validity.{pattern-valid, set-fine}
 use Rattle.numbers.specs.Numbers.{Stored}
 use Rattle.numbers.specs.Format.{encodeAll}
 use Rattle.numbers.proofs.Parts.{encode-append}
-use Rattle.numbers.proofs.ListLoops.{stored-then, stored-length}
-use Rattle.patternfile.specs.PatternFile.{numbersOf, roomTest}
+use Rattle.numbers.proofs.Puts.{stored-then, stored-length}
+use Rattle.patternfile.specs.PatternFile.{roomTest}
 use Rattle.patternfile.specs.Writer.{fileBytes, writeTest, WriteDone}
 
 module _ (P : Pattern) (x y : ℕ) where

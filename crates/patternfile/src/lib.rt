@@ -52,9 +52,9 @@ fn product(states: usize, letters: usize) -> usize
 fn read_size(bytes: &[u8], at: usize, most: usize) -> Number
     ensures { λ r. ⌜ r ≡ heldTo (sizeTest most) at (numberAt (now (bytes .entry)) at) ⌝ }
 {
-    let a = numbers::read(bytes, at);
-    let Number::Value(v, next) = a else {
-        return a;
+    let size = numbers::read(bytes, at);
+    let Number::Value(v, next) = size else {
+        return size;
     };
     numbers::ruled(pattern::size_test(most, index(v)), at, v, next)
 }
@@ -62,9 +62,9 @@ fn read_size(bytes: &[u8], at: usize, most: usize) -> Number
 fn read_set(bytes: &[u8], at: usize, states: usize) -> Number
     ensures { λ r. ⌜ r ≡ heldTo (setTest states) at (numberAt (now (bytes .entry)) at) ⌝ }
 {
-    let a = numbers::read(bytes, at);
-    let Number::Value(v, next) = a else {
-        return a;
+    let set = numbers::read(bytes, at);
+    let Number::Value(v, next) = set else {
+        return set;
     };
     numbers::ruled(pattern::set_test(states, v), at, v, next)
 }
@@ -76,9 +76,9 @@ fn pass_sets(bytes: &[u8], at: usize, states: usize, count: usize) -> Number
     let mut left = count;
     let mut place = at;
     while 0 < left {
-        let a = read_set(bytes, place, states);
-        let Number::Value(_, next) = a else {
-            return a;
+        let set = read_set(bytes, place, states);
+        let Number::Value(_, next) = set else {
+            return set;
         };
         place = next;
         left = left - 1;
@@ -86,10 +86,10 @@ fn pass_sets(bytes: &[u8], at: usize, states: usize, count: usize) -> Number
     Number::Value(wide(count), place)
 }
 
-fn refused(a: Number) -> PatternRead
-    ensures { λ r. ⌜ r ≡ refusedBy a ⌝ }
+fn refused(number: Number) -> PatternRead
+    ensures { λ r. ⌜ r ≡ refusedBy number ⌝ }
 {
-    match a {
+    match number {
         Number::Value(_, next) => PatternRead::Refused(0, next),
         Number::Fault(why, place) => PatternRead::Refused(why, place),
     }
@@ -99,13 +99,13 @@ fn refused(a: Number) -> PatternRead
 fn judge(bytes: &[u8], room: usize) -> PatternRead
     ensures { λ r. ⌜ Judges (now (bytes .entry)) room r ⌝ }
 {
-    let a = read_size(bytes, 0, 64);
-    let Number::Value(n, at_letters) = a else {
-        return refused(a);
+    let n_read = read_size(bytes, 0, 64);
+    let Number::Value(n, at_letters) = n_read else {
+        return refused(n_read);
     };
-    let b = read_size(bytes, at_letters, 32);
-    let Number::Value(k, at_finals) = b else {
-        return refused(b);
+    let k_read = read_size(bytes, at_letters, 32);
+    let Number::Value(k, at_finals) = k_read else {
+        return refused(k_read);
     };
     let states = index(n);
     let letters = index(k);
@@ -113,21 +113,21 @@ fn judge(bytes: &[u8], room: usize) -> PatternRead
     if room < count {
         return PatternRead::Refused(14, at_finals);
     }
-    let c = read_set(bytes, at_finals, states);
-    let Number::Value(finals, at_rows) = c else {
-        return refused(c);
+    let finals_read = read_set(bytes, at_finals, states);
+    let Number::Value(finals, at_rows) = finals_read else {
+        return refused(finals_read);
     };
-    let d = pass_sets(bytes, at_rows, states, count);
-    let Number::Value(_, at_x) = d else {
-        return refused(d);
+    let rows_passed = pass_sets(bytes, at_rows, states, count);
+    let Number::Value(_, at_x) = rows_passed else {
+        return refused(rows_passed);
     };
-    let e = read_set(bytes, at_x, states);
-    let Number::Value(x, at_y) = e else {
-        return refused(e);
+    let x_read = read_set(bytes, at_x, states);
+    let Number::Value(x, at_y) = x_read else {
+        return refused(x_read);
     };
-    let f = read_set(bytes, at_y, states);
-    let Number::Value(y, end) = f else {
-        return refused(f);
+    let y_read = read_set(bytes, at_y, states);
+    let Number::Value(y, end) = y_read else {
+        return refused(y_read);
     };
     if end < bytes.len() {
         return PatternRead::Refused(22, end);
@@ -149,8 +149,8 @@ fn fill(bytes: &[u8], at: usize, rows: &mut [u64], count: usize)
     let mut i: usize = 0;
     let mut place = at;
     while i < count {
-        let a = numbers::read(bytes, place);
-        let Number::Value(v, next) = a else {
+        let row = numbers::read(bytes, place);
+        let Number::Value(v, next) = row else {
             return;
         };
         rows[i] = v;
@@ -200,17 +200,17 @@ fn write_test(
 ) -> Verdict
     ensures { λ r. ⌜ r ≡ writeTest (patternOf states letters finals (now (rows .entry))) x y room ⌝ }
 {
-    let a = pattern::pattern_test(states, letters, finals, rows);
-    let Verdict::Fine = a else {
-        return a;
+    let pattern = pattern::pattern_test(states, letters, finals, rows);
+    let Verdict::Fine = pattern else {
+        return pattern;
     };
-    let b = pattern::set_test(states, x);
-    let Verdict::Fine = b else {
-        return b;
+    let x_test = pattern::set_test(states, x);
+    let Verdict::Fine = x_test else {
+        return x_test;
     };
-    let c = pattern::set_test(states, y);
-    let Verdict::Fine = c else {
-        return c;
+    let y_test = pattern::set_test(states, y);
+    let Verdict::Fine = y_test else {
+        return y_test;
     };
     verdict::need(file_size(states, letters, finals, rows, x, y) <= room, 14)
 }

@@ -38,7 +38,8 @@ returns : tie.Need-returns Inv-loop μ-loop
 returns c =
     let tried = c .before in
     let turn = tried .before .before .before in
-    fails (turn .loop-test .taken) (turn .before .loop .inv .lower) (tried .holds .ensures .complete (not-true _ (c .if1 .taken)))
+    let at = turn .before .loop in
+    fails {i = at .place} (omega arith) (at .inv .lower) (tried .holds .ensures .complete (not-true _ (c .if1 .taken)))
 
 add-place : tie.Need-add-place Inv-loop μ-loop
 add-place c = omega arith
@@ -50,7 +51,8 @@ loop-again : tie.Need-loop-again Inv-loop μ-loop
 loop-again c =
     let tried = c .before in
     let turn = tried .before .before .before in
-    held-more (turn .loop-test .taken) (turn .before .loop .inv) (tried .holds .ensures .sound (not-false _ (c .if1 .left)))
+    let at = turn .before .loop in
+    held-more {i = at .place} (omega arith) (at .inv) (tried .holds .ensures .sound (not-false _ (c .if1 .left)))
 
 returns-2 : tie.Need-returns-2 Inv-loop μ-loop
 returns-2 c = held-all (c .loop-test .left) (c .before .loop .inv)

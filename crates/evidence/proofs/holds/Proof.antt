@@ -46,7 +46,8 @@ returns-2 c =
     let decided = c .before in
     let right = decided .before in
     let left = right .before in
-    decided-no (stepped-apart (left .before .loop-test .taken) (left .next .ensures _) (right .next2 .ensures _) (decided .congruent .ensures .complete (not-true _ (c .if2 .taken))))
+    let at = left .before .before .loop in
+    decided-no (stepped-apart {i = at .letter} (omega arith) (left .next .ensures _) (right .next2 .ensures _) (decided .congruent .ensures .complete (not-true _ (c .if2 .taken))))
 
 add-letter : tie.Need-add-letter Inv-loop μ-loop
 add-letter c = omega arith
@@ -59,8 +60,8 @@ loop-again c =
     let decided = c .before in
     let right = decided .before in
     let left = right .before in
-    let turn = left .before in
-    stepped-more (turn .loop-test .taken) (turn .before .loop .inv) (left .next .ensures _) (right .next2 .ensures _) (decided .congruent .ensures .sound (not-false _ (c .if2 .left)))
+    let at = left .before .before .loop in
+    stepped-more {i = at .letter} (omega arith) (at .inv) (left .next .ensures _) (right .next2 .ensures _) (decided .congruent .ensures .sound (not-false _ (c .if2 .left)))
 
 returns-3 : tie.Need-returns-3 Inv-loop μ-loop
 unfolding accepts reach

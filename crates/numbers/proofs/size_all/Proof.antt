@@ -26,7 +26,7 @@ shared-slice-read-size c = omega arith
 size-requires : tie.Need-size-requires Inv-loop μ-loop
 size-requires c κs = search needs
 
--- a list of 64-bit numbers is no longer than 2 ^ 61, so ten bytes for each do not wrap
+-- a list of 64-bit numbers has at most 2 ^ 60 of them, so ten bytes for each do not wrap
 add-total : tie.Need-add-total Inv-loop μ-loop
 add-total c =
     let turn = c .before .before .before in

@@ -1,12 +1,8 @@
 -- `patternfile::file_size` is the sizes of the file's three parts.
-use Prim.Native.Nat.{ℕ, _+_, _*_, _≤_}
 use mathlib.Core.List.{[], _∷_}
-use mathlib.Core.Path.{_≡_, ap, _∙_}
 use borrow.Author.Needs.{needs}
 use native.Mathlib.Omega.{arith}
-use lib.ListN.{length}
 use Rattle.pattern.specs.Pattern.{patternOf}
-use Rattle.numbers.specs.Format.{encodeAll}
 use Rattle.numbers.proofs.ListLoops.{all-ten}
 use Rattle.patternfile.proofs.Storing.{sizes-add}
 use Rattle.patternfile.proofs.file_size.Statement.{statement}

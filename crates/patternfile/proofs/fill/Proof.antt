@@ -27,8 +27,8 @@ loop-holds c =
 read-requires : tie.Need-read-requires Inv-loop μ-loop
 read-requires c κs = search needs
 
-enum-known-a : tie.Need-enum-known-a Inv-loop μ-loop
-enum-known-a c = search needs
+enum-known-row : tie.Need-enum-known-row Inv-loop μ-loop
+enum-known-row c = search needs
 
 enum-told : tie.Need-enum-told Inv-loop μ-loop
 enum-told c = search needs
@@ -59,7 +59,7 @@ loop-less c = omega arith
 loop-again : tie.Need-loop-again Inv-loop μ-loop
 loop-again c =
     let read = c .before .before .before in
-    filling-step (read .before .before .loop .inv) (read .before .loop-test .taken) (read .read .ensures) (c .before .a .given .1)
+    filling-step (read .before .before .loop .inv) (read .before .loop-test .taken) (read .read .ensures) (c .before .row .given .1)
 
 same-length-2 : tie.Need-same-length-2 Inv-loop μ-loop
 same-length-2 c = c .before .loop .inv .long
@@ -75,7 +75,7 @@ fill-spec =
     μ-loop
     loop-holds
     read-requires
-    enum-known-a
+    enum-known-row
     enum-told
     same-length
     returns

@@ -4,7 +4,6 @@ use mathlib.Core.List.{List, [], _∷_, _++_}
 use native.Mathlib.Omega.{arith}
 use borrow.Author.Needs.{needs}
 use Rattle.pattern.specs.Tests.{setTest}
-use Rattle.numbers.specs.Numbers.{AreBytes}
 use Rattle.numbers.specs.Format.{ended, item, many}
 use Rattle.numbers.proofs.Steps.{Reached, reached-item, stopped-item, stopped-tail}
 use Rattle.patternfile.specs.PatternFile.{startsFormat, afterLetters, patternFormat}
@@ -21,10 +20,10 @@ bytes start = start .args .bytes .now
 -- ---- n and k are read
 
 module _ (c : tie.After-index2) where
-  abbrev has-k : tie.After-b
+  abbrev has-k : tie.After-k-read
   has-k = c .before .before .before
 
-  abbrev has-n : tie.After-a
+  abbrev has-n : tie.After-n-read
   has-n = has-k .before .before .before .before
 
   abbrev start : tie.Start
@@ -36,9 +35,9 @@ module _ (c : tie.After-index2) where
   abbrev letters : ℕ
   letters = c .index2 .result
 
-  at-room : Reached (patternFormat (room start)) (bytes start) (states ∷ letters ∷ []) (afterLetters (room start) states letters) (has-k .b .given .0 .1 .0)
+  at-room : Reached (patternFormat (room start)) (bytes start) (states ∷ letters ∷ []) (afterLetters (room start) states letters) (has-k .k-read .given .0 .1 .0)
   at-room =
-      to-room (room start) (bytes start) (has-n .before .before .read-size .ensures) (has-n .a .given .1) (has-k .before .before .read-size2 .ensures) (has-k .b .given .1)
+      to-room (room start) (bytes start) (has-n .before .before .read-size .ensures) (has-n .n-read .given .1) (has-k .before .before .read-size2 .ensures) (has-k .k-read .given .1)
       (c .before .index .ensures) (c .index2 .ensures)
 
 -- ---- the buffer has room
@@ -51,12 +50,12 @@ module _ (c : tie.Else1) where
   begin = start sized
 
   at-finals : Reached (patternFormat (room begin)) (bytes begin) (states sized ∷ letters sized ∷ [])
-      (item (setTest (states sized)) (λ finals. many (states sized * letters sized) (setTest (states sized)) (startsFormat (states sized)))) (has-k sized .b .given .0 .1 .0)
+      (item (setTest (states sized)) (λ finals. many (states sized * letters sized) (setTest (states sized)) (startsFormat (states sized)))) (has-k sized .k-read .given .0 .1 .0)
   at-finals = to-finals (room begin) (bytes begin) (states sized) (letters sized) (at-room sized) (c .before .product .ensures) (c .if1 .left)
 
 -- ---- the finals are read
 
-module _ (c : tie.After-c) where
+module _ (c : tie.After-finals-read) where
   abbrev roomy : tie.Else1
   roomy = c .before .before .before
 
@@ -67,18 +66,18 @@ module _ (c : tie.After-c) where
   k = letters (sized roomy)
 
   abbrev finals : ℕ
-  finals = c .c .given .0 .0
+  finals = c .finals-read .given .0 .0
 
   abbrev from : ℕ
-  from = c .c .given .0 .1 .0
+  from = c .finals-read .given .0 .1 .0
 
   at-rows : Reached (patternFormat (room (begin roomy))) (bytes (begin roomy)) (n ∷ k ∷ finals ∷ []) (many (n * k) (setTest n) (startsFormat n)) from
-  at-rows = reached-item (at-finals roomy) (c .before .before .read-set .ensures) (c .c .given .1)
+  at-rows = reached-item (at-finals roomy) (c .before .before .read-set .ensures) (c .finals-read .given .1)
 
 -- ---- the rows are passed
 
-module _ (c : tie.After-d) where
-  abbrev has-finals : tie.After-c
+module _ (c : tie.After-rows-passed) where
+  abbrev has-finals : tie.After-finals-read
   has-finals = c .before .before .before .before
 
   abbrev origin : tie.Start
@@ -87,41 +86,41 @@ module _ (c : tie.After-d) where
   abbrev rows : List ℕ
   rows = rowsFrom (bytes origin) (n has-finals) (k has-finals) (from has-finals)
 
-  at-x : Reached (patternFormat (room origin)) (bytes origin) (n has-finals ∷ k has-finals ∷ finals has-finals ∷ rows) (startsFormat (n has-finals)) (c .d .given .0 .1 .0)
+  at-x : Reached (patternFormat (room origin)) (bytes origin) (n has-finals ∷ k has-finals ∷ finals has-finals ∷ rows) (startsFormat (n has-finals)) (c .rows-passed .given .0 .1 .0)
   at-x =
-      to-x (room origin) (bytes origin) (n has-finals) (k has-finals) (at-rows has-finals) (roomy has-finals .before .product .ensures) (c .before .before .pass-sets .ensures) (c .d .given .1)
+      to-x (room origin) (bytes origin) (n has-finals) (k has-finals) (at-rows has-finals) (roomy has-finals .before .product .ensures) (c .before .before .pass-sets .ensures) (c .rows-passed .given .1)
 
 -- ---- X and Y are read
 
-module _ (c : tie.After-e) where
-  abbrev has-rows : tie.After-d
+module _ (c : tie.After-x-read) where
+  abbrev has-rows : tie.After-rows-passed
   has-rows = c .before .before .before .before
 
-  abbrev head : tie.After-c
+  abbrev head : tie.After-finals-read
   head = has-finals has-rows
 
-  at-y : Reached (patternFormat (room (origin has-rows))) (bytes (origin has-rows)) (n head ∷ k head ∷ finals head ∷ (rows has-rows ++ (c .e .given .0 .0 ∷ [])))
-      (item (setTest (n head)) (λ y. ended)) (c .e .given .0 .1 .0)
-  at-y = reached-item (at-x has-rows) (c .before .before .read-set2 .ensures) (c .e .given .1)
+  at-y : Reached (patternFormat (room (origin has-rows))) (bytes (origin has-rows)) (n head ∷ k head ∷ finals head ∷ (rows has-rows ++ (c .x-read .given .0 .0 ∷ [])))
+      (item (setTest (n head)) (λ y. ended)) (c .x-read .given .0 .1 .0)
+  at-y = reached-item (at-x has-rows) (c .before .before .read-set2 .ensures) (c .x-read .given .1)
 
-module _ (c : tie.After-f) where
-  abbrev has-x : tie.After-e
+module _ (c : tie.After-y-read) where
+  abbrev has-x : tie.After-x-read
   has-x = c .before .before .before .before
 
   abbrev source : tie.Start
   source = origin (has-rows has-x)
 
   at-end : Reached (patternFormat (room source)) (bytes source)
-      (n (head has-x) ∷ k (head has-x) ∷ finals (head has-x) ∷ ((rows (has-rows has-x) ++ (has-x .e .given .0 .0 ∷ [])) ++ (c .f .given .0 .0 ∷ []))) ended (c .f .given .0 .1 .0)
-  at-end = reached-item (at-y has-x) (c .before .before .read-set3 .ensures) (c .f .given .1)
+      (n (head has-x) ∷ k (head has-x) ∷ finals (head has-x) ∷ ((rows (has-rows has-x) ++ (has-x .x-read .given .0 .0 ∷ [])) ++ (c .y-read .given .0 .0 ∷ []))) ended (c .y-read .given .0 .1 .0)
+  at-end = reached-item (at-y has-x) (c .before .before .read-set3 .ensures) (c .y-read .given .1)
 
 -- ---- the needs
 
 read-size-requires : tie.Need-read-size-requires
 read-size-requires c κs = search needs
 
-enum-known-a : tie.Need-enum-known-a
-enum-known-a c = search needs
+enum-known-n-read : tie.Need-enum-known-n-read
+enum-known-n-read c = search needs
 
 enum-told : tie.Need-enum-told
 enum-told c = search needs
@@ -139,8 +138,8 @@ returns c =
 read-size-requires-2 : tie.Need-read-size-requires-2
 read-size-requires-2 c κs = search needs
 
-enum-known-b : tie.Need-enum-known-b
-enum-known-b c = search needs
+enum-known-k-read : tie.Need-enum-known-k-read
+enum-known-k-read c = search needs
 
 enum-told-2 : tie.Need-enum-told-2
 enum-told-2 c = search needs
@@ -155,7 +154,7 @@ returns-2 c =
     let one = read .before .before in
     let s = one .before .before .before .before in
     goes-up (room s) (bytes s) (c .refused2 .ensures) (fault .enum-told2 .given .1)
-    (stopped-item (reached-item (to-states (room s) (bytes s)) (one .before .before .read-size .ensures) (one .a .given .1)) (read .read-size2 .ensures) (fault .enum-told2 .given .1))
+    (stopped-item (reached-item (to-states (room s) (bytes s)) (one .before .before .read-size .ensures) (one .n-read .given .1)) (read .read-size2 .ensures) (fault .enum-told2 .given .1))
 
 index-requires : tie.Need-index-requires
 index-requires c κs = search needs
@@ -165,7 +164,7 @@ index-requires-2 c κs = search needs
 
 product-requires : tie.Need-product-requires
 product-requires c κs =
-    sizes-fine (room (start c)) (bytes (start c)) (has-n c .before .before .read-size .ensures) (has-n c .a .given .1) (has-k c .before .before .read-size2 .ensures) (has-k c .b .given .1)
+    sizes-fine (room (start c)) (bytes (start c)) (has-n c .before .before .read-size .ensures) (has-n c .n-read .given .1) (has-k c .before .before .read-size2 .ensures) (has-k c .k-read .given .1)
     (c .before .index .ensures) (c .index2 .ensures)
 
 -- NO-ROOM
@@ -177,8 +176,8 @@ returns-3 c =
 read-set-requires : tie.Need-read-set-requires
 read-set-requires c κs = search needs
 
-enum-known-c : tie.Need-enum-known-c
-enum-known-c c = search needs
+enum-known-finals-read : tie.Need-enum-known-finals-read
+enum-known-finals-read c = search needs
 
 enum-told-3 : tie.Need-enum-told-3
 enum-told-3 c = search needs
@@ -196,8 +195,8 @@ returns-4 c =
 pass-sets-requires : tie.Need-pass-sets-requires
 pass-sets-requires c κs = search needs
 
-enum-known-d : tie.Need-enum-known-d
-enum-known-d c = search needs
+enum-known-rows-passed : tie.Need-enum-known-rows-passed
+enum-known-rows-passed c = search needs
 
 enum-told-4 : tie.Need-enum-told-4
 enum-told-4 c = search needs
@@ -217,8 +216,8 @@ returns-5 c =
 read-set-requires-2 : tie.Need-read-set-requires-2
 read-set-requires-2 c κs = search needs
 
-enum-known-e : tie.Need-enum-known-e
-enum-known-e c = search needs
+enum-known-x-read : tie.Need-enum-known-x-read
+enum-known-x-read c = search needs
 
 enum-told-5 : tie.Need-enum-told-5
 enum-told-5 c = search needs
@@ -237,8 +236,8 @@ returns-6 c =
 read-set-requires-3 : tie.Need-read-set-requires-3
 read-set-requires-3 c κs = search needs
 
-enum-known-f : tie.Need-enum-known-f
-enum-known-f c = search needs
+enum-known-y-read : tie.Need-enum-known-y-read
+enum-known-y-read c = search needs
 
 enum-told-6 : tie.Need-enum-told-6
 enum-told-6 c = search needs
@@ -265,7 +264,7 @@ returns-9 c =
     let three = has-finals four in
     let s = origin four in
     all-read (room s) (bytes s) (rows four) (at-end six)
-    (rows-tabled (room s) (bytes s) (n three) (k three) (at-rows three) (roomy three .before .product .ensures) (four .before .before .pass-sets .ensures) (four .d .given .1))
+    (rows-tabled (room s) (bytes s) (n three) (k three) (at-rows three) (roomy three .before .product .ensures) (four .before .before .pass-sets .ensures) (four .rows-passed .given .1))
     (record { each = λ i. omega (arith, has-n (sized (roomy three)) .before .before .before .shared-slice-known .given i) }) (c .if2 .left)
 
 pub judge-spec : {M : Type 1} → statement M
@@ -273,12 +272,12 @@ judge-spec =
     tie.close
     (tie.spec
     read-size-requires
-    enum-known-a
+    enum-known-n-read
     enum-told
     refused-requires
     returns
     read-size-requires-2
-    enum-known-b
+    enum-known-k-read
     enum-told-2
     refused-requires-2
     returns-2
@@ -287,22 +286,22 @@ judge-spec =
     product-requires
     returns-3
     read-set-requires
-    enum-known-c
+    enum-known-finals-read
     enum-told-3
     refused-requires-3
     returns-4
     pass-sets-requires
-    enum-known-d
+    enum-known-rows-passed
     enum-told-4
     refused-requires-4
     returns-5
     read-set-requires-2
-    enum-known-e
+    enum-known-x-read
     enum-told-5
     refused-requires-5
     returns-6
     read-set-requires-3
-    enum-known-f
+    enum-known-y-read
     enum-told-6
     refused-requires-6
     returns-7

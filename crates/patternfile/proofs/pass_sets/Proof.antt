@@ -1,6 +1,6 @@
 -- `patternfile::pass_sets` judges so many sets: `Passing` follows the loop. The measure is how many are left.
 use borrow.Author.Needs.{needs}
-use mathlib.Core.Path.{_≡_, ap, _∙_}
+use mathlib.Core.Path.{ap, _∙_}
 use native.Mathlib.Omega.{arith}
 use Prim.Native.Nat.{ℕ}
 use Rattle.pattern.specs.Tests.{setTest}
@@ -23,8 +23,8 @@ loop-holds c =
 read-set-requires : tie.Need-read-set-requires Inv-loop μ-loop
 read-set-requires c κs = search needs
 
-enum-known-a : tie.Need-enum-known-a Inv-loop μ-loop
-enum-known-a c = search needs
+enum-known-set : tie.Need-enum-known-set Inv-loop μ-loop
+enum-known-set c = search needs
 
 enum-told : tie.Need-enum-told Inv-loop μ-loop
 enum-told c = search needs
@@ -43,7 +43,7 @@ loop-less c = omega arith
 loop-again : tie.Need-loop-again Inv-loop μ-loop
 loop-again c =
     let read = c .before .before .before in
-    passing-step (read .before .before .loop .inv) (read .before .loop-test .taken) (read .read-set .ensures) (c .before .a .given .1)
+    passing-step (read .before .before .loop .inv) (read .before .loop-test .taken) (read .read-set .ensures) (c .before .set .given .1)
 
 wide-requires : tie.Need-wide-requires Inv-loop μ-loop
 wide-requires c κs = search needs
@@ -61,7 +61,7 @@ pass-sets-spec =
     μ-loop
     loop-holds
     read-set-requires
-    enum-known-a
+    enum-known-set
     enum-told
     returns
     sub-left

@@ -8,8 +8,8 @@ use Rattle.patternfile.proofs.read_set.Tie as tie
 read-requires : tie.Need-read-requires
 read-requires c κs = search needs
 
-enum-known-a : tie.Need-enum-known-a
-enum-known-a c = search needs
+enum-known-set : tie.Need-enum-known-set
+enum-known-set c = search needs
 
 enum-told : tie.Need-enum-told
 enum-told c = search needs
@@ -30,8 +30,8 @@ returns-2 c =
     let tested = c .before in
     let known = tested .before .before in
     let start = known .before .before .before .before in
-    held-ruled (setTest (start .args .states)) (start .args .at) (known .before .before .read .ensures) (known .a .given .1) (tested .set-test .ensures) (c .ruled .ensures)
+    held-ruled (setTest (start .args .states)) (start .args .at) (known .before .before .read .ensures) (known .set .given .1) (tested .set-test .ensures) (c .ruled .ensures)
 
 pub read-set-spec : {M : Type 1} → statement M
 read-set-spec =
-    tie.close (tie.spec read-requires enum-known-a enum-told returns set-test-requires ruled-requires returns-2)
+    tie.close (tie.spec read-requires enum-known-set enum-told returns set-test-requires ruled-requires returns-2)

@@ -9,8 +9,8 @@ use Rattle.patternfile.proofs.read_size.Tie as tie
 read-requires : tie.Need-read-requires
 read-requires c κs = search needs
 
-enum-known-a : tie.Need-enum-known-a
-enum-known-a c = search needs
+enum-known-size : tie.Need-enum-known-size
+enum-known-size c = search needs
 
 enum-told : tie.Need-enum-told
 enum-told c = search needs
@@ -34,9 +34,9 @@ returns-2 c =
     let tested = c .before in
     let known = tested .before .before .before in
     let start = known .before .before .before .before in
-    held-ruled (sizeTest (start .args .most)) (start .args .at) (known .before .before .read .ensures) (known .a .given .1)
+    held-ruled (sizeTest (start .args .most)) (start .args .at) (known .before .before .read .ensures) (known .size .given .1)
     (tested .size-test .ensures ∙ ap (sizeTest (start .args .most)) (tested .before .index .ensures)) (c .ruled .ensures)
 
 pub read-size-spec : {M : Type 1} → statement M
 read-size-spec =
-    tie.close (tie.spec read-requires enum-known-a enum-told returns index-requires size-test-requires ruled-requires returns-2)
+    tie.close (tie.spec read-requires enum-known-size enum-told returns index-requires size-test-requires ruled-requires returns-2)

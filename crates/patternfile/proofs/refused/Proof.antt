@@ -5,17 +5,17 @@ use Rattle.patternfile.specs.Inner.{refusedBy}
 use Rattle.patternfile.proofs.refused.Statement.{statement}
 use Rattle.patternfile.proofs.refused.Tie as tie
 
-enum-known-a : tie.Need-enum-known-a
-enum-known-a c = search needs
+enum-known-number : tie.Need-enum-known-number
+enum-known-number c = search needs
 
-enum-known-a-2 : tie.Need-enum-known-a-2
-enum-known-a-2 c = search needs
+enum-known-number-2 : tie.Need-enum-known-number-2
+enum-known-number-2 c = search needs
 
 returns : tie.Need-returns
-returns c = sym (ap refusedBy (c .before .a .given .1))
+returns c = sym (ap refusedBy (c .before .number .given .1))
 
 returns-2 : tie.Need-returns-2
-returns-2 c = sym (ap refusedBy (c .before .a2 .given .1))
+returns-2 c = sym (ap refusedBy (c .before .number2 .given .1))
 
 pub refused-spec : {M : Type 1} → statement M
-refused-spec = tie.close (tie.spec enum-known-a enum-known-a-2 returns returns-2)
+refused-spec = tie.close (tie.spec enum-known-number enum-known-number-2 returns returns-2)

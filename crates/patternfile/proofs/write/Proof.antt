@@ -1,7 +1,5 @@
 -- `patternfile::write`: once the tests are passed, the three parts are put one after the other.
-use Prim.Native.Nat.{ℕ}
-use mathlib.Core.List.{List}
-use mathlib.Core.Path.{_≡_, sym, refl, _∙_}
+use mathlib.Core.Path.{sym, refl, _∙_}
 use borrow.Author.Needs.{needs}
 use Rattle.pattern.specs.Pattern.{Pattern, patternOf}
 use Rattle.patternfile.proofs.Storing.{room-head, room-rows, room-starts, writes-done}

@@ -1,0 +1,21 @@
+#![doc = include_str!("../README.md")]
+//!
+//! ## What is proved and what is not
+//!
+//! The static library is proved. This wrapper is not: it turns slices into pointers and counts,
+//! and numbers into enums, and does nothing else.
+
+#![no_std]
+#![warn(missing_docs)]
+
+#[cfg(not(all(target_arch = "x86_64", target_pointer_width = "64")))]
+compile_error!("the proved library is for x86-64");
+
+mod exports;
+mod judge;
+mod pattern;
+mod refusal;
+
+pub use judge::{judge, Judged};
+pub use pattern::{Pattern, MAX_LETTERS, MAX_STATES};
+pub use refusal::Refusal;
