@@ -1,2 +1,4 @@
--- Laws that belong to no one function.
+-- Laws that belong to no one function, each after those it rests on.
 pub mod Lines
+pub mod Lengths
+pub mod Answered

@@ -5,12 +5,14 @@ ghost use Prim.Native.Nat.{_+_, _≤_};
 ghost use lib.ListN.{length};
 ghost use Rattle.text.specs.Text.{Put, word, decimal, spaced, line};
 ghost use Rattle.events.specs.Events.{eventName};
-ghost use Rattle.report.specs.Inner.{pairLines};
+ghost use Rattle.report.specs.Report.{refusalText, longest};
+ghost use Rattle.report.specs.Inner.{pairLines, answerText, Small};
 use events::put_name;
 use text::put_byte;
 use text::put_bytes;
 use text::put_decimal;
 use text::put_number;
+use walk::Answer;
 
 // Numbers, each with a space in front.
 fn put_numbers(out: &mut [u8], at: usize, numbers: &[u64]) -> usize
@@ -94,4 +96,46 @@ fn put_sequence(out: &mut [u8], at: usize, sequence: &[u8]) -> usize
     let first = put_name(out, at, sequence[0]);
     let last = put_events(out, first, &sequence[1..]);
     put_byte(out, last, b'\n')
+}
+
+fn put_refusal(out: &mut [u8], number: u8, place: usize) -> usize
+    requires { ⌜ longest ≤ length (now out) ⌝ }
+    ensures { λ r. ⌜ Put (now (out .entry)) 0 (refusalText number place) r (now (out .exit)) ⌝ }
+{
+    let numbers = [number as u64, place as u64];
+    put_head(out, b"REFUSED", &numbers)
+}
+
+// The text of the comparison's answer, by what it left in the lists.
+fn put_answer(
+    out: &mut [u8],
+    answer: Answer,
+    lefts: &[u64],
+    rights: &[u64],
+    sequence: &[u8],
+) -> usize
+    requires { ⌜ longest ≤ length (now out) ⌝ }
+    requires { ⌜ Small answer ⌝ }
+    requires { ⌜ 1024 ≤ length (now lefts) ⌝ }
+    requires { ⌜ 1024 ≤ length (now rights) ⌝ }
+    requires { ⌜ 1024 ≤ length (now sequence) ⌝ }
+    ensures { λ r. ⌜ Put (now (out .entry)) 0 (answerText answer (now (lefts .entry)) (now (rights .entry)) (now (sequence .entry))) r (now (out .exit)) ⌝ }
+{
+    match answer {
+        Answer::Same(kept, examined) => {
+            let counts = [kept as u64, examined as u64];
+            let place = put_head(out, b"SAME", &counts);
+            put_records(out, place, &lefts[..kept], &rights[..kept])
+        }
+        Answer::Different(kept, examined, length) => {
+            let counts = [kept as u64, examined as u64, length as u64];
+            let place = put_head(out, b"DIFFERENT", &counts);
+            put_sequence(out, place, &sequence[..length])
+        }
+        Answer::Full(kept, examined) => {
+            let counts = [kept as u64, examined as u64];
+            put_head(out, b"FULL", &counts)
+        }
+        Answer::Refused(number) => put_refusal(out, number, 0),
+    }
 }
