@@ -1,9 +1,32 @@
-//! The exports of the static library, as `crates/pressbadger/src/lib.rt` declares them. A lent
-//! slice goes over as a pointer and a count.
+//! The exports of the static library, as `crates/pressbadger/src` declares them. A lent slice goes
+//! over as a pointer and a count.
 
 #[repr(C)]
 pub struct PbJudged {
     pub answer: u8,
+}
+
+#[repr(C)]
+pub struct PbChecked {
+    pub answer: u8,
+    pub place: usize,
+}
+
+#[repr(C)]
+pub struct PbPattern {
+    pub answer: u8,
+    pub states: usize,
+    pub letters: usize,
+    pub finals: u64,
+    pub x: u64,
+    pub y: u64,
+    pub place: usize,
+}
+
+#[repr(C)]
+pub struct PbWritten {
+    pub answer: u8,
+    pub count: usize,
 }
 
 extern "C" {
@@ -17,4 +40,37 @@ extern "C" {
         sequence: *const u8,
         sequence_count: usize,
     ) -> PbJudged;
+
+    pub fn pb_check(
+        states: usize,
+        letters: usize,
+        finals: u64,
+        rows: *const u64,
+        rows_count: usize,
+        x: u64,
+        y: u64,
+        lefts: *const u64,
+        lefts_count: usize,
+        rights: *const u64,
+        rights_count: usize,
+    ) -> PbChecked;
+
+    pub fn pb_read_pattern(
+        bytes: *const u8,
+        bytes_count: usize,
+        rows: *mut u64,
+        rows_count: usize,
+    ) -> PbPattern;
+
+    pub fn pb_write_pattern(
+        states: usize,
+        letters: usize,
+        finals: u64,
+        rows: *const u64,
+        rows_count: usize,
+        x: u64,
+        y: u64,
+        bytes: *mut u8,
+        bytes_count: usize,
+    ) -> PbWritten;
 }

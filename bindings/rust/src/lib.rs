@@ -2,8 +2,8 @@
 //!
 //! ## What is proved and what is not
 //!
-//! The static library is proved. This wrapper is not: it turns slices into pointers and counts,
-//! and numbers into enums, and does nothing else.
+//! The static library is proved. This wrapper is not: it turns slices into pointers and counts, and
+//! numbers into enums, and does nothing else. Tests hold both to an independent reference.
 
 #![no_std]
 #![warn(missing_docs)]
@@ -11,11 +11,15 @@
 #[cfg(not(all(target_arch = "x86_64", target_pointer_width = "64")))]
 compile_error!("the proved library is for x86-64");
 
+mod evidence;
 mod exports;
+mod file;
 mod judge;
 mod pattern;
 mod refusal;
 
+pub use evidence::{check, Checked, MAX_PAIRS};
+pub use file::{read_pattern, write_pattern, PatternRead, PatternWritten, LONGEST_FILE, MAX_ROWS};
 pub use judge::{judge, Judged};
 pub use pattern::{Pattern, MAX_LETTERS, MAX_STATES};
 pub use refusal::Refusal;

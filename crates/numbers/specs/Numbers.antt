@@ -4,7 +4,7 @@
 --   groups i bytes     what the bytes of a number are from its byte number i on: a `whole` value, or a `faulty` number
 --   numberAt bytes at  what reading at a place finds (`read-after-write`, `write-after-read`, `cut-exactly`, `long-exactly`)
 --   AreBytes bytes     each of them is a byte
---   Stored ..          bytes were put from a place on, and all else is as it was
+--   Stored ..          bytes were put from a place on, and all else is as it was (`stored-parts`, `stored-determined`)
 use Prim.Native.Nat.{ℕ, zero, suc, _+_, _*_, _-_, _/_, _%_, _<_}
 use mathlib.Core.Bool.{cond, not, _||_}
 use mathlib.Core.List.{List, [], _∷_}

@@ -1,7 +1,7 @@
 -- The pattern file (document 01, 'Pattern file'): numbers only, in this order: n, k, finals, the n * k rows, X, Y.
 --   numbersOf P x y       the numbers of a file, in their order
 --   roomTest room count   14 NO-ROOM: the buffer lent is long enough
---   patternFormat room    the file as a format, for a row buffer of so many entries
+--   patternFormat room    the file as a format, for a row buffer of so many entries (`no-longer`, `one-as-long`)
 use Prim.Native.Nat.{ℕ, _*_}
 use mathlib.Core.List.{List, [], _∷_, _++_}
 use lib.Dec.{leb}

@@ -1,10 +1,11 @@
 -- What reading a pattern file answers, and what it leaves in the row buffer lent.
---   FileOf room bytes P x y   the bytes are the file of the pattern P with the sets X and Y
---   Reads bytes old r new     the reader's promise: the answer r, and the buffer `new` where it was `old`
---   numberOf r, valuesOf r    document 01's number of an answer, and the values returned with it
+--   FileOf room bytes P x y   the bytes are the file of the pattern P with the sets X and Y (`accepted-valid`, `file-of`)
+--   Reads bytes old r new     the reader's promise: the answer r, and the buffer `new` where it was `old`; nothing is left open
+--                             (`reader-determined`), what is accepted is valid (`read-valid`), and a refusal stands where document 01 says (`refusal-place`)
+--   numberOf r, valuesOf r    document 01's number of an answer (`read-number`), and the values returned with it
 -- `sets old 0 rows` is the library's: the rows over the first entries of the old content.
 use Prim.Native.Nat.{ℕ, _*_}
-use mathlib.Core.List.{List, [], _∷_}
+use mathlib.Core.List.{List}
 use mathlib.Core.Path.{_≡_}
 use lib.ListN.{length}
 use lib.Seq.{sets}
@@ -37,7 +38,15 @@ abbrev pub numberOf : PatternRead → ℕ
 numberOf (Done n k finals x y) = 7
 numberOf (Refused w place) = w
 
--- n, k, finals, X, Y and the place
-abbrev pub valuesOf : PatternRead → List ℕ
-valuesOf (Done n k finals x y) = n ∷ k ∷ finals ∷ x ∷ y ∷ 0 ∷ []
-valuesOf (Refused w place) = 0 ∷ 0 ∷ 0 ∷ 0 ∷ 0 ∷ place ∷ []
+-- n, k, finals, X, Y and the place: DONE has place 0, and a refusal returns 0 for all but its place
+pub record Values : Type 0 where
+  pub states : ℕ
+  pub letters : ℕ
+  pub finals : ℕ
+  pub x : ℕ
+  pub y : ℕ
+  pub place : ℕ
+
+abbrev pub valuesOf : PatternRead → Values
+valuesOf (Done n k finals x y) = record { states = n; letters = k; finals = finals; x = x; y = y; place = 0 }
+valuesOf (Refused w place) = record { states = 0; letters = 0; finals = 0; x = 0; y = 0; place = place }

@@ -1,7 +1,8 @@
 -- What writing a pattern file answers, and what it leaves in the byte buffer lent.
 --   writeTest P x y room     the tests, in document 01's order: 10, 11, 12, 14
---   Writes P x y old r new   the writer's promise: the answer r, and the buffer `new` where it was `old`
---   numberOf r, valueOf r    document 01's number of an answer, and the byte count returned with it
+--   Writes P x y old r new   the writer's promise: the answer r, and the buffer `new` where it was `old`; nothing is left open (`writer-determined`),
+--                            and with the reader it goes round both ways (`read-after-write`, `write-after-read`)
+--   numberOf r, countOf r    document 01's number of an answer (`write-number`), and the byte count returned with it
 use Prim.Native.Nat.{ℕ}
 use mathlib.Core.List.{List, [], _∷_}
 use mathlib.Core.Path.{_≡_}
@@ -42,6 +43,6 @@ abbrev pub numberOf : Written → ℕ
 numberOf (Done count) = 7
 numberOf (Refused w) = w
 
-abbrev pub valueOf : Written → ℕ
-valueOf (Done count) = count
-valueOf (Refused w) = 0
+abbrev pub countOf : Written → ℕ
+countOf (Done count) = count
+countOf (Refused w) = 0

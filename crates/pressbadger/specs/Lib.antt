@@ -1,4 +1,5 @@
 -- What the exports answer.
 pub mod Host
+pub mod Lists
 pub mod Checks
 pub mod Files

@@ -1,10 +1,13 @@
 // The host's face: the calls that C and Rust programs make. `include/pressbadger.h` is their manual.
+ghost use mathlib.Core.Path.{_≡_};
 ghost use Rattle.pattern.specs.Pattern.{patternOf};
-ghost use Rattle.pressbadger.specs.Host.{Judges};
+ghost use Rattle.pattern.specs.Judge.{judged};
+ghost use Rattle.pressbadger.specs.Host.{judgeAnswer};
 use pattern::Judged;
 
 pub mod checks; // checks.rt: evidence checked
 pub mod files; // files.rt: pattern files, read and written
+pub mod lists; // lists.rt: the comparison over lists of numbers
 
 // The answer to `pb_judge`.
 #[repr(C)]
@@ -22,7 +25,7 @@ pub extern "C" fn pb_judge(
     set: u64,
     sequence: &[u8],
 ) -> PbJudged
-    ensures { λ r. ⌜ Judges (patternOf states letters finals (now (rows .entry))) set (now (sequence .entry)) r ⌝ }
+    ensures { λ r. ⌜ r ≡ judgeAnswer (judged (patternOf states letters finals (now (rows .entry))) set (now (sequence .entry))) ⌝ }
 {
     let judged = pattern::judge(states, letters, finals, rows, set, sequence);
     match judged {
@@ -30,4 +33,12 @@ pub extern "C" fn pb_judge(
         Judged::Reject => PbJudged { answer: 4 },
         Judged::Refused(number) => PbJudged { answer: number },
     }
+}
+
+// The version of this interface.
+#[no_mangle]
+pub extern "C" fn pb_version() -> u32
+    ensures { λ r. ⌜ r ≡ 1 ⌝ }
+{
+    1
 }

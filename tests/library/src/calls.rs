@@ -3,29 +3,71 @@
 //! Each function here fails if the call changed anything that it was lent and
 //! that its answer does not name as written.
 
+use crate::host;
 use crate::lent::Lent;
 use crate::probes::{self, Probed};
 use reference::answers::DONE;
+use reference::evidence::Check;
+use reference::file::{Reading, Writing};
 use reference::pattern::Pattern;
-
-/// A pattern whose rows are lent.
-fn lend<'a>(pattern: &Pattern, rows: &'a Lent<u64>) -> pressbadger::Pattern<'a> {
-    pressbadger::Pattern {
-        states: pattern.states as usize,
-        letters: pattern.letters as usize,
-        finals: pattern.finals,
-        rows: rows.get(),
-    }
-}
 
 /// The answer to one sequence judged from one set.
 pub fn judge(pattern: &Pattern, set: u64, sequence: &[u8]) -> u64 {
     let rows = Lent::holding(&pattern.rows);
     let sequence = Lent::holding(sequence);
-    let judged = pressbadger::judge(&lend(pattern, &rows), set, sequence.get());
+    let judged = host::judge(pattern, rows.get(), set, sequence.get());
     rows.assert_unchanged();
     sequence.assert_unchanged();
-    u64::from(judged.number())
+    u64::from(judged.answer)
+}
+
+/// The answer to a list of pairs offered as evidence.
+pub fn check(pattern: &Pattern, x: u64, y: u64, lefts: &[u64], rights: &[u64]) -> Check {
+    let rows = Lent::holding(&pattern.rows);
+    let (lefts, rights) = (Lent::holding(lefts), Lent::holding(rights));
+    let checked = host::check(pattern, rows.get(), x, y, lefts.get(), rights.get());
+    rows.assert_unchanged();
+    lefts.assert_unchanged();
+    rights.assert_unchanged();
+    Check {
+        answer: u64::from(checked.answer),
+        place: checked.place as u64,
+    }
+}
+
+/// What reading a pattern file gives, with a row buffer of the given length. All numbers are taken
+/// over as they come, on a refusal too.
+pub fn read_pattern(bytes: &[u8], row_buffer_length: usize) -> Reading {
+    let bytes = Lent::holding(bytes);
+    let mut rows = Lent::blank(row_buffer_length);
+    let read = host::read_pattern(bytes.get(), rows.get_mut());
+    bytes.assert_unchanged();
+    let done = u64::from(read.answer) == DONE;
+    let count = if done { read.states * read.letters } else { 0 };
+    Reading {
+        answer: u64::from(read.answer),
+        place: read.place as u64,
+        pattern: Pattern {
+            states: read.states as u64,
+            letters: read.letters as u64,
+            finals: read.finals,
+            rows: rows.written(0..count).to_vec(),
+        },
+        x: read.x,
+        y: read.y,
+    }
+}
+
+/// What writing a pattern file gives, with a byte buffer of the given length.
+pub fn write_pattern(pattern: &Pattern, x: u64, y: u64, byte_buffer_length: usize) -> Writing {
+    let rows = Lent::holding(&pattern.rows);
+    let mut bytes = Lent::blank(byte_buffer_length);
+    let written = host::write_pattern(pattern, rows.get(), x, y, bytes.get_mut());
+    rows.assert_unchanged();
+    Writing {
+        answer: u64::from(written.answer),
+        bytes: bytes.written(0..written.count).to_vec(),
+    }
 }
 
 /// A probe's value, or the refusal: its value is 0.
@@ -83,4 +125,31 @@ pub fn congruent(lefts: &[u64], rights: &[u64], a: u64, b: u64) -> Result<bool, 
     let value = result(probed)?;
     assert!(value <= 1, "{value}");
     Ok(value == 1)
+}
+
+/// The number at a place and the place after it, or the fault and its place.
+pub fn read_number(bytes: &[u8], at: usize) -> Result<(u64, usize), (u64, usize)> {
+    let bytes = Lent::holding(bytes);
+    let probed = probes::read_number(bytes.get(), at);
+    bytes.assert_unchanged();
+    match u64::from(probed.answer) {
+        DONE => Ok((probed.value, probed.place)),
+        fault => {
+            assert_eq!(probed.value, 0, "fault {fault}");
+            Err((fault, probed.place))
+        }
+    }
+}
+
+/// The bytes of a number put at a place of a buffer of the given length, or the refusal.
+pub fn write_number(length: usize, at: usize, value: u64) -> Result<Vec<u8>, u64> {
+    let mut bytes = Lent::blank(length);
+    let written = result(probes::write_number(bytes.get_mut(), at, value));
+    match written {
+        Ok(after) => Ok(bytes.written(at..after as usize).to_vec()),
+        Err(refusal) => {
+            bytes.assert_unchanged();
+            Err(refusal)
+        }
+    }
 }

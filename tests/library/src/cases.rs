@@ -112,7 +112,11 @@ impl Case {
     /// The pairs of a key: left and right of each.
     pub fn pairs(&self, key: &str) -> Vec<Pair> {
         let numbers = self.numbers(key);
-        assert!(numbers.len().is_multiple_of(2), "{}: {key} is no pairs", self.name);
+        assert!(
+            numbers.len().is_multiple_of(2),
+            "{}: {key} is no pairs",
+            self.name
+        );
         numbers.chunks(2).map(|pair| (pair[0], pair[1])).collect()
     }
 

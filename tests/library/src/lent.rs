@@ -2,6 +2,7 @@
 
 use std::fmt::Debug;
 use std::hint::black_box;
+use std::ops::Range;
 
 /// How many sentinels stand on each side. An odd number, so that a slice begins
 /// at no rounder address than its type asks for.
@@ -74,35 +75,33 @@ impl<T: Unit> Lent<T> {
     /// Fails unless the slice and all around it is as it was lent.
     #[track_caller]
     pub fn assert_unchanged(&self) {
-        self.assert_changed_only_before(0);
+        self.written(0..0);
     }
 
-    /// The first places of the slice; fails unless all else is as it was lent.
+    /// The places that may have been written; fails unless all others are as they were lent.
     #[track_caller]
-    pub fn written(&self, count: usize) -> &[T] {
-        self.assert_changed_only_before(count);
-        &self.get()[..count]
-    }
-
-    #[track_caller]
-    fn assert_changed_only_before(&self, count: usize) {
+    pub fn written(&self, places: Range<usize>) -> &[T] {
         // The compiler may not take it from the lending by `&` that nothing was written.
         let memory = black_box(&self.memory[..]);
-        let (before, after) = (..MARGIN, MARGIN + count..);
-        assert_eq!(memory[before], self.as_lent[before], "before the slice");
+        let (before, after) = (..MARGIN + places.start, MARGIN + places.end..);
+        let unchanged =
+            memory[before] == self.as_lent[before] && memory[after.clone()] == self.as_lent[after];
         assert!(
-            memory[after.clone()] == self.as_lent[after],
-            "after the {count} places that may be written, of {}: {:?}",
+            unchanged,
+            "of {} places only {places:?} may be written, but {} is",
             self.get().len(),
-            self.changed_from(count)
+            self.first_change(&places)
         );
+        &self.get()[places]
     }
 
-    /// The first place of the slice, from the given one on, that is not as it was lent.
-    fn changed_from(&self, count: usize) -> Option<(usize, T)> {
-        let place = (MARGIN + count..self.memory.len())
-            .find(|&place| self.memory[place] != self.as_lent[place])?;
-        Some((place - MARGIN, self.memory[place]))
+    /// The first place that was written and may not be; below 0 it stands before the slice.
+    fn first_change(&self, places: &Range<usize>) -> isize {
+        let place = |at: usize| at as isize - MARGIN as isize;
+        let may_change = |at: usize| at >= MARGIN && places.contains(&(at - MARGIN));
+        (0..self.memory.len())
+            .find(|&at| self.memory[at] != self.as_lent[at] && !may_change(at))
+            .map_or(isize::MAX, place)
     }
 }
 
@@ -144,10 +143,15 @@ mod tests {
     #[test]
     fn only_the_places_named_as_written_may_change() {
         let check = |lent: &Lent<u8>| {
-            lent.written(2);
+            lent.written(1..3);
         };
         let found = noticed(&mut Lent::blank(5), 0, check);
-        let wanted = [vec![true; MARGIN], vec![false; 2], vec![true; 3 + MARGIN]].concat();
+        let wanted = [
+            vec![true; MARGIN + 1],
+            vec![false; 2],
+            vec![true; 2 + MARGIN],
+        ]
+        .concat();
         assert_eq!(found, wanted);
     }
 

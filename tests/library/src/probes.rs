@@ -1,13 +1,31 @@
 //! The exports that only tests call, made safe to call.
 
-mod exports {
-    //! As `crates/probes/src/lib.rt` declares them. A lent slice goes over as a pointer and a count.
+/// What most probes return.
+#[repr(C)]
+#[derive(Clone, Copy, Debug, PartialEq, Eq)]
+pub struct Probed {
+    /// DONE or a refusal.
+    pub answer: u8,
+    /// The value, 0 on a refusal.
+    pub value: u64,
+}
 
-    #[repr(C)]
-    pub struct Probed {
-        pub answer: u8,
-        pub value: u64,
-    }
+/// What reading a number returns.
+#[repr(C)]
+#[derive(Clone, Copy, Debug, PartialEq, Eq)]
+pub struct ProbedNumber {
+    /// DONE, CUT or LONG.
+    pub answer: u8,
+    /// The number, 0 on a fault.
+    pub value: u64,
+    /// The place after the number, or that of the fault.
+    pub place: usize,
+}
+
+mod exports {
+    //! As `crates/probes/src` declares them. A lent slice goes over as a pointer and a count.
+
+    use super::{Probed, ProbedNumber};
 
     extern "C" {
         pub fn probe_union(a: u64, b: u64) -> u64;
@@ -44,22 +62,8 @@ mod exports {
             a: u64,
             b: u64,
         ) -> Probed;
-    }
-}
-
-/// What most probes return.
-#[derive(Clone, Copy, Debug, PartialEq, Eq)]
-pub struct Probed {
-    /// DONE or a refusal.
-    pub answer: u8,
-    /// The value, 0 on a refusal.
-    pub value: u64,
-}
-
-impl From<exports::Probed> for Probed {
-    fn from(probed: exports::Probed) -> Probed {
-        let exports::Probed { answer, value } = probed;
-        Probed { answer, value }
+        pub fn probe_read_number(bytes: *const u8, bytes_count: usize, at: usize) -> ProbedNumber;
+        pub fn probe_write_number(out: *mut u8, out_count: usize, at: usize, value: u64) -> Probed;
     }
 }
 
@@ -84,20 +88,20 @@ pub fn meets(a: u64, b: u64) -> bool {
 /// The set of one state.
 pub fn single(state: usize) -> Probed {
     // SAFETY: nothing is lent.
-    unsafe { exports::probe_single(state) }.into()
+    unsafe { exports::probe_single(state) }
 }
 
 /// What is against a pattern, with value 0.
 pub fn pattern(states: usize, letters: usize, finals: u64, rows: &[u64]) -> Probed {
     // SAFETY: the slice is valid for reads of its count, and the call only reads it.
-    unsafe { exports::probe_pattern(states, letters, finals, rows.as_ptr(), rows.len()) }.into()
+    unsafe { exports::probe_pattern(states, letters, finals, rows.as_ptr(), rows.len()) }
 }
 
 /// The set that a letter takes a set to.
 pub fn next(states: usize, letters: usize, rows: &[u64], set: u64, letter: u8) -> Probed {
     let (pointer, count) = (rows.as_ptr(), rows.len());
     // SAFETY: the slice is valid for reads of its count, and the call only reads it.
-    unsafe { exports::probe_next(states, letters, pointer, count, set, letter) }.into()
+    unsafe { exports::probe_next(states, letters, pointer, count, set, letter) }
 }
 
 /// A set closed by a list of pairs.
@@ -112,7 +116,6 @@ pub fn close(lefts: &[u64], rights: &[u64], set: u64) -> Probed {
             set,
         )
     }
-    .into()
 }
 
 /// Whether two sets are congruent by a list of pairs: value 1 or 0.
@@ -128,5 +131,16 @@ pub fn congruent(lefts: &[u64], rights: &[u64], a: u64, b: u64) -> Probed {
             b,
         )
     }
-    .into()
+}
+
+/// The number at a place of some bytes.
+pub fn read_number(bytes: &[u8], at: usize) -> ProbedNumber {
+    // SAFETY: the bytes are valid for reads of their count, and the call only reads them.
+    unsafe { exports::probe_read_number(bytes.as_ptr(), bytes.len(), at) }
+}
+
+/// A number put at a place of the bytes: the place after it, or NO-ROOM.
+pub fn write_number(bytes: &mut [u8], at: usize, value: u64) -> Probed {
+    // SAFETY: the bytes are valid for writes of their count.
+    unsafe { exports::probe_write_number(bytes.as_mut_ptr(), bytes.len(), at, value) }
 }

@@ -26,8 +26,8 @@ module _ (c : tie.After-index2) where
   abbrev has-n : tie.After-n-read
   has-n = has-k .before .before .before .before
 
-  abbrev start : tie.Start
-  start = has-n .before .before .before .before
+  abbrev start-k : tie.Start
+  start-k = has-n .before .before .before .before
 
   abbrev states : ℕ
   states = c .before .index .result
@@ -35,9 +35,9 @@ module _ (c : tie.After-index2) where
   abbrev letters : ℕ
   letters = c .index2 .result
 
-  at-room : Reached (patternFormat (room start)) (bytes start) (states ∷ letters ∷ []) (afterLetters (room start) states letters) (has-k .k-read .given .0 .1 .0)
+  at-room : Reached (patternFormat (room start-k)) (bytes start-k) (states ∷ letters ∷ []) (afterLetters (room start-k) states letters) (has-k .k-read .given .0 .1 .0)
   at-room =
-      to-room (room start) (bytes start) (has-n .before .before .read-size .ensures) (has-n .n-read .given .1) (has-k .before .before .read-size2 .ensures) (has-k .k-read .given .1)
+      to-room (room start-k) (bytes start-k) (has-n .before .before .read-size .ensures) (has-n .n-read .given .1) (has-k .before .before .read-size2 .ensures) (has-k .k-read .given .1)
       (c .before .index .ensures) (c .index2 .ensures)
 
 -- ---- the buffer has room
@@ -46,12 +46,12 @@ module _ (c : tie.Else1) where
   abbrev sized : tie.After-index2
   sized = c .before .before
 
-  abbrev begin : tie.Start
-  begin = start sized
+  abbrev start-room : tie.Start
+  start-room = start-k sized
 
-  at-finals : Reached (patternFormat (room begin)) (bytes begin) (states sized ∷ letters sized ∷ [])
+  at-finals : Reached (patternFormat (room start-room)) (bytes start-room) (states sized ∷ letters sized ∷ [])
       (item (setTest (states sized)) (λ finals. many (states sized * letters sized) (setTest (states sized)) (startsFormat (states sized)))) (has-k sized .k-read .given .0 .1 .0)
-  at-finals = to-finals (room begin) (bytes begin) (states sized) (letters sized) (at-room sized) (c .before .product .ensures) (c .if1 .left)
+  at-finals = to-finals (room start-room) (bytes start-room) (states sized) (letters sized) (at-room sized) (c .before .product .ensures) (c .if1 .left)
 
 -- ---- the finals are read
 
@@ -71,7 +71,7 @@ module _ (c : tie.After-finals-read) where
   abbrev from : ℕ
   from = c .finals-read .given .0 .1 .0
 
-  at-rows : Reached (patternFormat (room (begin roomy))) (bytes (begin roomy)) (n ∷ k ∷ finals ∷ []) (many (n * k) (setTest n) (startsFormat n)) from
+  at-rows : Reached (patternFormat (room (start-room roomy))) (bytes (start-room roomy)) (n ∷ k ∷ finals ∷ []) (many (n * k) (setTest n) (startsFormat n)) from
   at-rows = reached-item (at-finals roomy) (c .before .before .read-set .ensures) (c .finals-read .given .1)
 
 -- ---- the rows are passed
@@ -80,15 +80,15 @@ module _ (c : tie.After-rows-passed) where
   abbrev has-finals : tie.After-finals-read
   has-finals = c .before .before .before .before
 
-  abbrev origin : tie.Start
-  origin = begin (roomy has-finals)
+  abbrev start-rows : tie.Start
+  start-rows = start-room (roomy has-finals)
 
   abbrev rows : List ℕ
-  rows = rowsFrom (bytes origin) (n has-finals) (k has-finals) (from has-finals)
+  rows = rowsFrom (bytes start-rows) (n has-finals) (k has-finals) (from has-finals)
 
-  at-x : Reached (patternFormat (room origin)) (bytes origin) (n has-finals ∷ k has-finals ∷ finals has-finals ∷ rows) (startsFormat (n has-finals)) (c .rows-passed .given .0 .1 .0)
+  at-x : Reached (patternFormat (room start-rows)) (bytes start-rows) (n has-finals ∷ k has-finals ∷ finals has-finals ∷ rows) (startsFormat (n has-finals)) (c .rows-passed .given .0 .1 .0)
   at-x =
-      to-x (room origin) (bytes origin) (n has-finals) (k has-finals) (at-rows has-finals) (roomy has-finals .before .product .ensures) (c .before .before .pass-sets .ensures) (c .rows-passed .given .1)
+      to-x (room start-rows) (bytes start-rows) (n has-finals) (k has-finals) (at-rows has-finals) (roomy has-finals .before .product .ensures) (c .before .before .pass-sets .ensures) (c .rows-passed .given .1)
 
 -- ---- X and Y are read
 
@@ -99,7 +99,7 @@ module _ (c : tie.After-x-read) where
   abbrev head : tie.After-finals-read
   head = has-finals has-rows
 
-  at-y : Reached (patternFormat (room (origin has-rows))) (bytes (origin has-rows)) (n head ∷ k head ∷ finals head ∷ (rows has-rows ++ (c .x-read .given .0 .0 ∷ [])))
+  at-y : Reached (patternFormat (room (start-rows has-rows))) (bytes (start-rows has-rows)) (n head ∷ k head ∷ finals head ∷ (rows has-rows ++ (c .x-read .given .0 .0 ∷ [])))
       (item (setTest (n head)) (λ y. ended)) (c .x-read .given .0 .1 .0)
   at-y = reached-item (at-x has-rows) (c .before .before .read-set2 .ensures) (c .x-read .given .1)
 
@@ -107,10 +107,10 @@ module _ (c : tie.After-y-read) where
   abbrev has-x : tie.After-x-read
   has-x = c .before .before .before .before
 
-  abbrev source : tie.Start
-  source = origin (has-rows has-x)
+  abbrev start-y : tie.Start
+  start-y = start-rows (has-rows has-x)
 
-  at-end : Reached (patternFormat (room source)) (bytes source)
+  at-end : Reached (patternFormat (room start-y)) (bytes start-y)
       (n (head has-x) ∷ k (head has-x) ∷ finals (head has-x) ∷ ((rows (has-rows has-x) ++ (has-x .x-read .given .0 .0 ∷ [])) ++ (c .y-read .given .0 .0 ∷ []))) ended (c .y-read .given .0 .1 .0)
   at-end = reached-item (at-y has-x) (c .before .before .read-set3 .ensures) (c .y-read .given .1)
 
@@ -164,14 +164,14 @@ index-requires-2 c κs = search needs
 
 product-requires : tie.Need-product-requires
 product-requires c κs =
-    sizes-fine (room (start c)) (bytes (start c)) (has-n c .before .before .read-size .ensures) (has-n c .n-read .given .1) (has-k c .before .before .read-size2 .ensures) (has-k c .k-read .given .1)
+    sizes-fine (room (start-k c)) (bytes (start-k c)) (has-n c .before .before .read-size .ensures) (has-n c .n-read .given .1) (has-k c .before .before .read-size2 .ensures) (has-k c .k-read .given .1)
     (c .before .index .ensures) (c .index2 .ensures)
 
 -- NO-ROOM
 returns-3 : tie.Need-returns-3
 returns-3 c =
     let two = c .before .before in
-    stop-room (room (start two)) (bytes (start two)) (states two) (letters two) (at-room two) (c .before .product .ensures) (c .if1 .taken)
+    stop-room (room (start-k two)) (bytes (start-k two)) (states two) (letters two) (at-room two) (c .before .product .ensures) (c .if1 .taken)
 
 read-set-requires : tie.Need-read-set-requires
 read-set-requires c κs = search needs
@@ -189,7 +189,7 @@ returns-4 : tie.Need-returns-4
 returns-4 c =
     let fault = c .before in
     let read = fault .before .before in
-    let s = begin (read .before) in
+    let s = start-room (read .before) in
     goes-up (room s) (bytes s) (c .refused3 .ensures) (fault .enum-told3 .given .1) (stopped-item (at-finals (read .before)) (read .read-set .ensures) (fault .enum-told3 .given .1))
 
 pass-sets-requires : tie.Need-pass-sets-requires
@@ -209,7 +209,7 @@ returns-5 c =
     let fault = c .before in
     let read = fault .before .before in
     let three = read .before .before in
-    let s = begin (roomy three) in
+    let s = start-room (roomy three) in
     goes-up (room s) (bytes s) (c .refused4 .ensures) (fault .enum-told4 .given .1)
     (stop-rows (room s) (bytes s) (n three) (k three) (at-rows three) (roomy three .before .product .ensures) (read .pass-sets .ensures) (fault .enum-told4 .given .1))
 
@@ -230,7 +230,7 @@ returns-6 c =
     let fault = c .before in
     let read = fault .before .before in
     let four = read .before .before in
-    let s = origin four in
+    let s = start-rows four in
     goes-up (room s) (bytes s) (c .refused5 .ensures) (fault .enum-told5 .given .1) (stopped-item (at-x four) (read .read-set2 .ensures) (fault .enum-told5 .given .1))
 
 read-set-requires-3 : tie.Need-read-set-requires-3
@@ -250,7 +250,7 @@ returns-7 c =
     let fault = c .before in
     let read = fault .before .before in
     let five = read .before .before in
-    let s = origin (has-rows five) in
+    let s = start-rows (has-rows five) in
     goes-up (room s) (bytes s) (c .refused6 .ensures) (fault .enum-told6 .given .1) (stopped-item (at-y five) (read .read-set3 .ensures) (fault .enum-told6 .given .1))
 
 -- TAIL
@@ -262,7 +262,7 @@ returns-9 c =
     let six = c .before .before in
     let four = has-rows (has-x six) in
     let three = has-finals four in
-    let s = origin four in
+    let s = start-rows four in
     all-read (room s) (bytes s) (rows four) (at-end six)
     (rows-tabled (room s) (bytes s) (n three) (k three) (at-rows three) (roomy three .before .product .ensures) (four .before .before .pass-sets .ensures) (four .rows-passed .given .1))
     (record { each = λ i. omega (arith, has-n (sized (roomy three)) .before .before .before .shared-slice-known .given i) }) (c .if2 .left)

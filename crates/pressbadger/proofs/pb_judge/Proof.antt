@@ -1,7 +1,7 @@
 -- `pressbadger::pb_judge` gives the number of what judging answers.
 use mathlib.Core.Path.{sym, ap, _∙_}
-use Rattle.pattern.specs.Judge.{numberOf}
 use borrow.Author.Needs.{needs}
+use Rattle.pressbadger.specs.Host.{judgeAnswer}
 use Rattle.pressbadger.proofs.pb_judge.Statement.{statement}
 use Rattle.pressbadger.proofs.pb_judge.Tie as tie
 
@@ -18,13 +18,13 @@ enum-known-judged : tie.Need-enum-known-judged
 enum-known-judged c = search needs
 
 returns : tie.Need-returns
-returns c = record { answer = sym (ap numberOf (sym (c .before .before .judge .ensures) ∙ c .enum-told .given .1)) }
+returns c = sym (ap judgeAnswer (sym (c .before .before .judge .ensures) ∙ c .enum-told .given .1))
 
 returns-2 : tie.Need-returns-2
-returns-2 c = record { answer = sym (ap numberOf (sym (c .before .before .judge .ensures) ∙ c .enum-told2 .given .1)) }
+returns-2 c = sym (ap judgeAnswer (sym (c .before .before .judge .ensures) ∙ c .enum-told2 .given .1))
 
 returns-3 : tie.Need-returns-3
-returns-3 c = record { answer = sym (ap numberOf (sym (c .before .before .before .judge .ensures) ∙ c .before .judged .given .1)) }
+returns-3 c = sym (ap judgeAnswer (sym (c .before .before .before .judge .ensures) ∙ c .before .judged .given .1))
 
 pub pb-judge-spec : {M : Type 1} → statement M
 pb-judge-spec =

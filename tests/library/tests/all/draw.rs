@@ -36,6 +36,12 @@ pub fn any_question(random: &mut Random) -> Question {
     question(random, states, letters)
 }
 
+/// A random question of few states and letters.
+pub fn small_question(random: &mut Random) -> Question {
+    let (states, letters) = (random.between(1, 9), random.between(1, 3));
+    question(random, states, letters)
+}
+
 /// A pattern from its numbers.
 pub fn pattern(states: u64, letters: u64, finals: u64, rows: &[u64]) -> Pattern {
     Pattern {

@@ -6,9 +6,12 @@ mod draw;
 
 mod congruence;
 mod next;
+mod numbers;
 mod pattern;
 mod sets;
 
+mod evidence;
+mod files;
 mod judge;
 
 mod wrapper;

@@ -1,0 +1,14 @@
+-- What the comparison over lent lists answers: the promise of `walk`, as the host reads it.
+use mathlib.Core.Path.{_≡_}
+use Rattle.walk.specs.Answers.{Call, Lent, Compared, numberOf, valuesOf}
+use Rattle.walk.specs.declared.Answer.{Answer}
+use Rattle.pressbadger.specs.declared.lists.PbCompared.{PbCompared}
+
+-- document 01's number and values of an answer
+abbrev pub compareAnswer : Answer → PbCompared
+compareAnswer a = record { answer = numberOf a; kept = valuesOf a .kept; examined = valuesOf a .examined; length = valuesOf a .length }
+
+pub record ComparesLists (c : Call) (r : PbCompared) (after : Lent) : Type 0 where
+  pub answer : Answer
+  pub compared : Compared c answer after
+  pub answers : r ≡ compareAnswer answer
