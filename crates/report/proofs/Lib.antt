@@ -2,3 +2,5 @@
 pub mod Lines
 pub mod Lengths
 pub mod Answered
+pub mod Determined
+pub mod Reporting

@@ -4,8 +4,9 @@
 --   refusalText number place  `REFUSED`, its number and the place
 --   Asks input Q              the bytes taken in are the pattern file of the question Q
 --   Prints input text         what is printed for the bytes taken in: one text for each input (`prints-determined`)
---   Leaves input ..           what the buffers that the program lends hold then: nothing is left open (`leaves-determined`)
---   Reports input old r new   the text stands at the start of the buffer, r bytes, and the rest is as it was (`reports-determined`)
+--   Lends rows lent out       the buffers that the program lends
+--   Leaves input ..           what those hold then: nothing is left open (`leaves-determined`)
+--   Reports input old r new   the text stands at the start of the byte buffer, r bytes, and the rest is as it was (`reports-determined`)
 use mathlib.Core.Path.{_≡_}
 use mathlib.Core.List.{List, [], _∷_, _++_, map}
 use Prim.Native.Nat.{ℕ, _+_, _*_, _≤_}
@@ -17,6 +18,7 @@ use Rattle.patternfile.specs.Reader.{FileOf}
 use Rattle.walk.specs.Walk.{Question, Record, Outcome, Walk}
 use Rattle.walk.specs.Walk.Outcome.{Same, Different, Full}
 use Rattle.walk.specs.Answers.{Lent, defaultRoom, keptOf, wordOf, layOut}
+use Rattle.walk.specs.Meaning.{Roomy}
 use Rattle.text.specs.Text.{word, decimal, line, Put}
 use Rattle.events.specs.Events.{eventName}
 
@@ -45,20 +47,26 @@ abbrev pub Refuses : List ℕ → ℕ → ℕ → Type 0
 Refuses input number place = fileReading (patternFormat rowRoom) input ≡ refused number place
 
 pub data Prints (input : List ℕ) : List ℕ → Type 0 where
-  refusal : {number place : ℕ} → Refuses input number place → Prints input (refusalText number place)
-  answer : {Q : Question} {o : Outcome} → Asks input Q → Walk Q defaultRoom o → Prints input (textOf o)
+  refuses : {number place : ℕ} → Refuses input number place → Prints input (refusalText number place)
+  answers : {Q : Question} {o : Outcome} → Asks input Q → Walk Q defaultRoom o → Prints input (textOf o)
 
 -- a refusal changes nothing; else the rows, the records and the sequence lie over what was there
 pub data Leaves (input rows : List ℕ) (lent : Lent) : List ℕ → Lent → Type 0 where
-  nothing : {number place : ℕ} → Refuses input number place → Leaves input rows lent rows lent
-  outcome : {Q : Question} {o : Outcome} → Asks input Q → Walk Q defaultRoom o
+  unchanged : {number place : ℕ} → Refuses input number place → Leaves input rows lent rows lent
+  laid : {Q : Question} {o : Outcome} → Asks input Q → Walk Q defaultRoom o
       → Leaves input rows lent (sets rows 0 (Q .pattern .rows)) (layOut (keptOf o) (wordOf o) lent)
 
--- no text is longer: a line of a name and two numbers, and 1024 lines of two numbers, each of at most 20 digits (`prints-short`)
+-- a line of four letters and two numbers, and 1024 lines of two numbers, each number of at most 20 digits: no text is longer
 abbrev pub longest : ℕ
 longest = 47 + 1024 * 42
 
--- the last two parts follow from `put`: they are what a caller needs to lend `&out[..r]`
+-- the row buffer, 1024 records and 1024 sequence bytes or more, and bytes enough for every text
+pub record Lends (rows : List ℕ) (lent : Lent) (out : List ℕ) : Type 0 where
+  pub rows-fit : length rows ≡ rowRoom
+  pub roomy : Roomy defaultRoom lent
+  pub text-fits : longest ≤ length out
+
+-- the last two parts follow from `put`; a caller needs them to lend `&out[..r]`
 pub record Reports (input old : List ℕ) (r : ℕ) (new : List ℕ) : Type 0 where
   pub text : List ℕ
   pub prints : Prints input text

@@ -5,9 +5,11 @@ ghost use Prim.Native.Nat.{_+_, _≤_};
 ghost use lib.ListN.{length};
 ghost use Rattle.text.specs.Text.{Put, word, decimal, spaced, line};
 ghost use Rattle.events.specs.Events.{eventName};
-ghost use Rattle.report.specs.Report.{refusalText, longest};
+ghost use Rattle.walk.specs.Answers.{lentOf};
+ghost use Rattle.report.specs.Report.{refusalText, longest, Lends, Leaves, Reports};
 ghost use Rattle.report.specs.Inner.{pairLines, answerText, Small};
 use events::put_name;
+use patternfile::PatternRead;
 use text::put_byte;
 use text::put_bytes;
 use text::put_decimal;
@@ -137,5 +139,49 @@ fn put_answer(
             put_head(out, b"FULL", &counts)
         }
         Answer::Refused(number) => put_refusal(out, number, 0),
+    }
+}
+
+// What `compare` prints for the bytes that it took in: reads the file, compares, and puts the text.
+pub fn report(
+    bytes: &[u8],
+    rows: &mut [u64],
+    lefts: &mut [u64],
+    rights: &mut [u64],
+    parents: &mut [u16],
+    taken: &mut [u8],
+    sequence: &mut [u8],
+    out: &mut [u8],
+) -> usize
+    requires { ⌜ Lends (now rows) (lentOf (now lefts) (now rights) (now parents) (now taken) (now sequence)) (now out) ⌝ }
+    ensures { λ r. ⌜ Reports (now (bytes .entry)) (now (out .entry)) r (now (out .exit)) ⌝ }
+    ensures { λ _. ⌜ Leaves (now (bytes .entry)) (now (rows .entry)) (lentOf (now (lefts .entry)) (now (rights .entry)) (now (parents .entry)) (now (taken .entry)) (now (sequence .entry))) (now (rows .exit)) (lentOf (now (lefts .exit)) (now (rights .exit)) (now (parents .exit)) (now (taken .exit)) (now (sequence .exit))) ⌝ }
+{
+    let file = patternfile::read(bytes, rows);
+    match file {
+        PatternRead::Refused(number, place) => put_refusal(out, number, place),
+        PatternRead::Done {
+            states,
+            letters,
+            finals,
+            x,
+            y,
+        } => {
+            let count = states * letters;
+            let answer = walk::compare_default(
+                states,
+                letters,
+                finals,
+                &rows[..count],
+                x,
+                y,
+                lefts,
+                rights,
+                parents,
+                taken,
+                sequence,
+            );
+            put_answer(out, answer, lefts, rights, sequence)
+        }
     }
 }
