@@ -1,7 +1,7 @@
 #!/usr/bin/env python3
 """Fails where docs/PROMISES.md names a definition, theorem, must-fail edit or test that is not there.
 
-In the page, `name` (crate/specs/File) names a definition or theorem of that file, `crate/label` in the
+In the page, `name` `name` (crate/specs/File) names definitions or theorems of that file, `crate/label` in the
 column of must-fail edits an edit, and `name` in the column of tests a Rust test or a file. Every
 must-fail edit of the repository has to be named, and no edit by two names.
 """
@@ -10,8 +10,8 @@ import re
 import sys
 
 ROOT = pathlib.Path(__file__).resolve().parent.parent
-CITED = re.compile(r"`([^`]+)` \(([\w/+]+)\)")
 NAMED = re.compile(r"`([^`]+)`")
+CITED = re.compile(r"((?:`[^`]+` )+)\(([\w/+]+)\)")
 
 
 def rows():
@@ -49,12 +49,14 @@ def main():
         if sentence == "sentence":
             continue
         seen += 1
-        for name, path in CITED.findall(definition + " " + theorem):
+        for names, path in CITED.findall(definition + " " + theorem):
             text = source(path)
             if text is None:
                 wrong.append("line %d: no file %s" % (number, path))
-            elif not defines(text, name):
-                wrong.append("line %d: no %s in %s" % (number, name, path))
+                continue
+            for name in NAMED.findall(names):
+                if not defines(text, name):
+                    wrong.append("line %d: no %s in %s" % (number, name, path))
         for name in NAMED.findall(refused):
             named.add(name)
             if name not in edits:
