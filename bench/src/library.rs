@@ -1,4 +1,4 @@
-//! The library's comparison as a host calls it, over lent lists.
+//! The library's comparison as a host calls it, over lent lists and over lent records.
 use reference::pattern::Pattern;
 
 #[repr(C)]
@@ -31,6 +31,65 @@ extern "C" {
         sequence: *mut u8,
         sequence_count: usize,
     ) -> Compared;
+
+    fn pb_compare(
+        states: usize,
+        letters: usize,
+        finals: u64,
+        rows: *const u64,
+        rows_count: usize,
+        x: u64,
+        y: u64,
+        room: usize,
+        records: *mut Record,
+        records_count: usize,
+        sequence: *mut u8,
+        sequence_count: usize,
+    ) -> Compared;
+}
+
+#[repr(C)]
+#[derive(Clone, Copy, Default)]
+pub struct Record {
+    left: u64,
+    right: u64,
+    parent: u16,
+    letter: u8,
+}
+
+/// What a host lends, made once and not cleared between calls.
+pub struct Records {
+    records: Vec<Record>,
+    sequence: Vec<u8>,
+}
+
+impl Records {
+    pub fn new(room: usize) -> Records {
+        Records {
+            records: vec![Record::default(); room],
+            sequence: vec![0; room],
+        }
+    }
+
+    pub fn compare(&mut self, pattern: &Pattern, x: u64, y: u64, room: usize) -> Compared {
+        // SAFETY: every pointer is that of a live vector, with its length beside it.
+        unsafe {
+            pb_compare(
+                pattern.states as usize,
+                pattern.letters as usize,
+                pattern.finals,
+                pattern.rows.as_ptr(),
+                pattern.rows.len(),
+                x,
+                y,
+                room,
+                self.records.as_mut_ptr(),
+                self.records.len(),
+                self.sequence.as_mut_ptr(),
+                self.sequence.len(),
+            )
+        }
+    }
 }
 
 /// What a host lends, made once and not cleared between calls.

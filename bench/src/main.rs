@@ -1,7 +1,7 @@
 //! Prints the figures of docs/FIGURES.md: each is a ratio or a count, measured in this one run.
 mod library;
 
-use library::Lists;
+use library::{Lists, Records};
 use reference::questions::{self, Finals, Question};
 use reference::random::Random;
 use reference::walk::compare;
@@ -123,8 +123,47 @@ fn growth_table() {
     }
 }
 
+/// What lending records costs beside lending lists, on small and on large questions.
+fn entry_table() {
+    println!("| question | records / lists |");
+    println!("|---|---|");
+    let tiny = questions::switches(1);
+    let small = random_questions(5, 64, Finals::None);
+    let large = questions::switches(10);
+    let cases: [(&str, &[Question], usize); 3] = [
+        ("2 pairs kept", std::slice::from_ref(&tiny), 2000),
+        ("1000 random automata of 64 states, none final", &small, ROUNDS),
+        ("1024 pairs kept", std::slice::from_ref(&large), 5),
+    ];
+    for (name, questions, rounds) in cases {
+        println!("| {name} | {:.2} |", entry_ratio(questions, rounds));
+    }
+}
+
+fn entry_ratio(questions: &[Question], rounds: usize) -> f64 {
+    let mut lists = Lists::new(ROOM);
+    let mut records = Records::new(ROOM);
+    let (mut by_lists, mut by_records) = (Duration::MAX, Duration::MAX);
+    for _ in 0..rounds {
+        let start = Instant::now();
+        for q in questions {
+            black_box(lists.compare(black_box(&q.pattern), q.x, q.y, ROOM));
+        }
+        by_lists = by_lists.min(start.elapsed());
+        let start = Instant::now();
+        for q in questions {
+            black_box(records.compare(black_box(&q.pattern), q.x, q.y, ROOM));
+        }
+        by_records = by_records.min(start.elapsed());
+    }
+    by_records.as_secs_f64() / by_lists.as_secs_f64()
+}
+
 fn main() {
-    random_table();
-    println!();
-    growth_table();
+    match std::env::args().nth(1).as_deref() {
+        Some("random") => random_table(),
+        Some("growth") => growth_table(),
+        Some("entry") => entry_table(),
+        _ => eprintln!("figures random | growth | entry"),
+    }
 }

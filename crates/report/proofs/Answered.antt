@@ -1,0 +1,64 @@
+-- The text of an answer, by its cases; and of the answer to a question that is not refused: the text of the walk's outcome. Assumes nothing.
+use mathlib.Core.Path.{_≡_, refl, ap, _∙_, subst}
+use mathlib.Core.List.{List, [], _∷_, _++_, map}
+use Prim.Native.Nat.{ℕ, _≤_}
+use lib.ListN.{length, take, drop, length-map}
+use lib.Seq.{take-at}
+use Rattle.walk.specs.declared.Answer.{Answer}
+use Rattle.walk.specs.Walk.{Record, leftsOf, rightsOf, Outcome}
+use Rattle.walk.specs.Walk.Outcome.{Same, Different, Full}
+use Rattle.walk.specs.Answers.{Lent, answerOf, keptOf, wordOf, lay, layOut}
+use Rattle.text.specs.Text.{word, decimal, line}
+use Rattle.events.specs.Events.{eventName}
+use Rattle.report.specs.Report.{recordLines, textOf, refusalText}
+use Rattle.report.specs.Inner.{pairLines, answerText, Small}
+
+-- ---- by the cases of the code
+
+module _ {answer : Answer} (lefts rights sequence : List ℕ) where
+  pub answer-same : {kept examined : ℕ} → answer ≡ Answer.Same kept examined
+      → line (word "SAME" ∷ decimal kept ∷ decimal examined ∷ []) ++ pairLines (take kept lefts) (take kept rights) ≡ answerText answer lefts rights sequence
+  unfolding answerText
+  answer-same q = rw q
+
+  pub answer-different : {kept examined length : ℕ} → answer ≡ Answer.Different kept examined length
+      → line (word "DIFFERENT" ∷ decimal kept ∷ decimal examined ∷ decimal length ∷ []) ++ line (map eventName (take length sequence)) ≡ answerText answer lefts rights sequence
+  unfolding answerText
+  answer-different q = rw q
+
+  pub answer-full : {kept examined : ℕ} → answer ≡ Answer.Full kept examined
+      → line (word "FULL" ∷ decimal kept ∷ decimal examined ∷ []) ≡ answerText answer lefts rights sequence
+  unfolding answerText
+  answer-full q = rw q
+
+  pub answer-refused : {number : ℕ} → answer ≡ Answer.Refused number → refusalText number 0 ≡ answerText answer lefts rights sequence
+  unfolding answerText
+  answer-refused q = rw q
+
+pub few-same : {answer : Answer} {kept examined : ℕ} → Small answer → answer ≡ Answer.Same kept examined → kept ≤ 1024
+few-same s q = rw q at s .few
+
+pub short-different : {answer : Answer} {kept examined length : ℕ} → Small answer → answer ≡ Answer.Different kept examined length → length ≤ 1024
+short-different s q = rw q at s .short
+
+-- ---- what was laid is what was kept
+
+pub record-lines : (kept : List Record) → pairLines (leftsOf kept) (rightsOf kept) ≡ recordLines kept
+unfolding pairLines recordLines
+record-lines [] = refl
+record-lines (r ∷ kept) = ap (λ (l : List ℕ). line (decimal (r .left) ∷ decimal (r .right) ∷ []) ++ l) (record-lines kept)
+
+take-lay : (values old : List ℕ) (n : ℕ) → length values ≡ n → take n (lay values old) ≡ values
+unfolding lay
+take-lay values old n e = take-at values (drop (length values) old) n e
+
+pub answer-text : (o : Outcome) (old : Lent) → let new = layOut (keptOf o) (wordOf o) old in answerText (answerOf o) (new .lefts) (new .rights) (new .sequence) ≡ textOf o
+unfolding answerText textOf layOut
+answer-text (Same kept examined) old =
+    rw (
+      take-lay (leftsOf kept) (old .lefts) (length kept) (length-map kept (λ (r : Record). r .left)),
+      take-lay (rightsOf kept) (old .rights) (length kept) (length-map kept (λ (r : Record). r .right)),
+      record-lines kept,
+    )
+answer-text (Different kept examined sequence) old = rw (take-lay sequence (old .sequence) (length sequence) refl)
+answer-text (Full kept examined) old = refl

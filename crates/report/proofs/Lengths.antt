@@ -1,0 +1,54 @@
+-- How long lines can be: twenty digits to a number, nine bytes to a name. Assumes nothing.
+use mathlib.Core.Path.{_≡_}
+use mathlib.Core.List.{List, [], _∷_, map}
+use Prim.Native.Nat.{ℕ, zero, suc, _+_, _*_, _<_, _≤_}
+use native.Mathlib.Omega.{arith}
+use lib.ListN.{length, take, getD, length-append}
+use Rattle.text.specs.Text.{word, decimal, spaced, joined, line}
+use Rattle.text.proofs.Decimal.{decimal-short}
+use Rattle.text.proofs.Lines.{spaced-length, line-length}
+use Rattle.events.specs.Events.{eventName}
+use Rattle.events.proofs.Names.{name-short}
+use Rattle.report.specs.Inner.{pairLines}
+use Rattle.report.proofs.Lines.{whole-length, pair-length}
+
+numbers-short : (numbers : List ℕ) → length (spaced (map decimal numbers)) ≤ 21 * length numbers
+unfolding spaced
+numbers-short [] = omega arith
+numbers-short (v ∷ numbers) = omega (arith, spaced-length (decimal v) (map decimal numbers), decimal-short v, numbers-short numbers)
+
+-- a line of a name and some numbers
+pub head-short : (name numbers : List ℕ) → length (line (name ∷ map decimal numbers)) ≤ length name + 21 * length numbers + 1
+head-short name numbers = omega (arith, whole-length name (map decimal numbers), numbers-short numbers)
+
+-- the lines of n records
+pub pairs-short : (n : ℕ) (lefts rights : List ℕ) → length (pairLines (take n lefts) (take n rights)) ≤ 42 * n
+unfolding pairLines
+pairs-short zero lefts rights = omega arith
+pairs-short (suc n) [] rights = omega arith
+pairs-short (suc n) (l ∷ lefts) [] = omega arith
+pairs-short (suc n) (l ∷ lefts) (r ∷ rights) =
+    omega (
+      arith,
+      length-append (line (decimal l ∷ decimal r ∷ [])) (pairLines (take n lefts) (take n rights)),
+      pair-length (decimal l) (decimal r),
+      decimal-short l,
+      decimal-short r,
+      pairs-short n lefts rights,
+    )
+
+names-spaced : (n : ℕ) (s : List ℕ) → ((i : ℕ) → getD s i 0 < 256) → length (spaced (map eventName (take n s))) ≤ 10 * n
+unfolding spaced
+names-spaced zero s bytes = omega arith
+names-spaced (suc n) [] bytes = omega arith
+names-spaced (suc n) (a ∷ s) bytes =
+    omega (arith, spaced-length (eventName a) (map eventName (take n s)), name-short a (bytes 0), names-spaced n s (λ i. bytes (suc i)))
+
+line-spaced : (ws : List (List ℕ)) → length (line ws) ≤ length (spaced ws) + 1
+unfolding joined
+line-spaced [] = omega (arith, line-length [])
+line-spaced (w ∷ ws) = omega (arith, whole-length w ws, spaced-length w ws)
+
+-- the line of a sequence of n bytes
+pub names-short : (n : ℕ) (s : List ℕ) → ((i : ℕ) → getD s i 0 < 256) → length (line (map eventName (take n s))) ≤ 10 * n + 1
+names-short n s bytes = omega (arith, line-spaced (map eventName (take n s)), names-spaced n s bytes)

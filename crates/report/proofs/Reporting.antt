@@ -1,0 +1,142 @@
+-- From what the reader and the comparison ensure to what is reported: a file that was read is never refused by the comparison. Assumes nothing.
+use mathlib.Core.Path.{_≡_, refl, sym, ap, _∙_, subst}
+use mathlib.Core.List.{List, [], _∷_, _++_}
+use Prim.Native.Nat.{ℕ, _+_, _*_, _/_, _%_, _<_, _≤_}
+use native.Mathlib.Omega.{arith}
+use lib.ListN.{length, take, drop, length-append}
+use lib.Seq.{sets, sets-eq, take-at, length-take-le}
+use Rattle.verdict.specs.declared.Verdict.the-variants.{Fine, Against}
+use Rattle.pattern.specs.Pattern.{patternOf}
+use Rattle.numbers.specs.Numbers.{AreBytes}
+use Rattle.patternfile.specs.declared.PatternRead.{PatternRead}
+use Rattle.patternfile.specs.declared.PatternRead.the-variants as Read
+use Rattle.patternfile.specs.Reader.{ReadDone, ReadRefused, Reads}
+use Rattle.patternfile.proofs.Contents.{Contents, accepted-valid}
+use Rattle.walk.specs.declared.Answer.{Answer}
+use Rattle.walk.specs.Walk.{Question, questionOf, Record, candidates, Word, Outcome, Ends, Walk}
+use Rattle.walk.specs.Walk.Word.{first, later}
+use Rattle.walk.specs.Walk.Outcome.{Same, Different, Full}
+use Rattle.walk.specs.Walk.Ends.{same, different, full}
+use Rattle.walk.specs.Answers.{Lent, Call, defaultRoom, answerOf, keptOf, wordOf, layOut, compareTest, Compared}
+use Rattle.walk.specs.Meaning.{Proper, Roomy}
+use Rattle.walk.proofs.Paths.{path-unique}
+use Rattle.walk.proofs.Sound.{Reached, sound-begin, sound-moved, from-below, fits-moved}
+use Rattle.walk.proofs.Asking.{compare-fine}
+use Rattle.text.specs.Text.{Put}
+use Rattle.text.proofs.Putting.{put-length, put-as}
+use Rattle.report.specs.Report.{textOf, refusalText, rowRoom, Asks, Refuses, Prints, Leaves, Reports}
+use Rattle.report.specs.Report.Prints.{refuses, answers}
+use Rattle.report.specs.Report.Leaves.{unchanged, laid}
+use Rattle.report.specs.Inner.{answerText, Small}
+use Rattle.report.proofs.Answered.{answer-text}
+
+-- ---- a text that was put
+
+pub reported : {input text old : List ℕ} {r : ℕ} {new : List ℕ} → Prints input text → Put old 0 text r new → Reports input old r new
+reported {r = r} {new} prints put =
+    let within : r ≤ length new = omega (arith, put .within, put-length put) in
+    record { text = _; prints = prints; put = put; within = within; counted = sym (length-take-le r new within) }
+
+-- ---- a file that was refused
+
+pub refusal-reported : (input rows new : List ℕ) {read : PatternRead} {number place : ℕ} → length rows ≡ rowRoom → Reads input rows read new → read ≡ Read.Refused number place
+    → {old : List ℕ} {r : ℕ} {out : List ℕ} → Put old 0 (refusalText number place) r out → (lent : Lent) → Reports input old r out × Leaves input rows lent new lent
+refusal-reported input rows new {number = number} {place} size reads q put lent =
+    let told : ReadRefused input rows number place new = subst (λ (z : PatternRead). Reads input rows z new) q reads in
+    let fault : Refuses input number place = rw (← size) (told .fault) in
+    (reported (refuses fault) put, rw (told .unchanged) (unchanged fault))
+
+-- ---- the comparison of a question that is not refused
+
+pub record Walked (c : Call) (answer : Answer) (l : Lent) : Type 0 where
+  pub outcome : Outcome
+  pub walk : Walk (c .question) (c .room) outcome
+  pub answered : answer ≡ answerOf outcome
+  pub left : l ≡ layOut (keptOf outcome) (wordOf outcome) (c .lent)
+
+pub walked : {c : Call} {answer : Answer} {l : Lent} → compareTest c ≡ Fine → Compared c answer l → Walked c answer l
+walked fine (Compared.refuses {number} against) = let e : Fine ≡ Against number = sym fine ∙ against in let z : _≡_ {A = ℕ} 0 1 = cc in absurd (omega arith)
+walked fine (Compared.walks {o} t w) = record { outcome = o; walk = w; answered = refl; left = refl }
+
+-- the sequence is no longer than the records are many
+word-short : {Q : Question} {kept : List Record} {e : ℕ} {w : List ℕ} → 0 < Q .pattern .letters → ((i : ℕ) → i < length kept → Reached Q kept i) → e < candidates Q kept
+    → Word Q kept e w → length w ≤ length kept
+word-short some reached l first = omega arith
+word-short {Q} {kept} some reached l (later {e} {w = v} path) =
+    let below = from-below Q some kept e l in
+    let way = reached (e / Q .pattern .letters) below in
+    omega (arith, length-append v (e % Q .pattern .letters ∷ []), ap length (path-unique path (way .path)), way .short, below)
+
+small : {Q : Question} {o : Outcome} → Proper Q → Walk Q defaultRoom o → Small (answerOf o)
+small {Q} proper w = go (w .ends)
+  where
+    some : 0 < Q .pattern .letters
+    some = proper .valid .sized .some-letter
+
+    few : length (w .last .kept) ≤ 1024
+    few = fits-moved (w .moved) (omega arith)
+
+    go : {o : Outcome} → Ends Q defaultRoom (w .last) o → Small (answerOf o)
+    go (same n) = record { few = few; short = omega arith }
+    go (different l f a v) = record { few = few; short = omega (arith, few, word-short some (sound-moved Q some (w .moved) (sound-begin Q some) .reached) l v) }
+    go (full l f a h) = record { few = few; short = omega arith }
+
+-- ---- a file that was read
+
+pub record Taken (input rows : List ℕ) (n k f x y : ℕ) (new : List ℕ) : Type 0 where
+  pub bytes : AreBytes input
+  pub size : length rows ≡ rowRoom
+  pub done : ReadDone input rows n k f x y new
+
+pub taken : (input rows new : List ℕ) {read : PatternRead} {n k f x y : ℕ} → AreBytes input → length rows ≡ rowRoom → Reads input rows read new → read ≡ Read.Done n k f x y
+    → Taken input rows n k f x y new
+taken input rows new bytes size reads q = record { bytes = bytes; size = size; done = subst (λ (z : PatternRead). Reads input rows z new) q reads }
+
+module _ {input rows : List ℕ} {n k f x y : ℕ} {new : List ℕ} (t : Taken input rows n k f x y new) where
+  abbrev found : List ℕ
+  found = t .done .rows
+
+  contents : Contents (length rows) (patternOf n k f found) x y
+  contents = accepted-valid (t .bytes) (t .done .file)
+
+  pub few-rows : n * k ≤ length rows
+  few-rows = contents .enough
+
+  -- the rows are those of the file
+  rows-read : take (n * k) new ≡ found
+  rows-read =
+      let h : 0 + length found ≤ length rows = omega (arith, few-rows, t .done .file .tabled) in
+      ap (take (n * k)) (t .done .written ∙ sets-eq found rows 0 h) ∙ take-at found (drop (0 + length found) rows) (n * k) (t .done .file .tabled)
+
+  abbrev pub question : Question
+  question = questionOf n k f (take (n * k) new) x y
+
+  pub asks : Asks input question
+  asks = rw (rows-read, ← t .size) (t .done .file)
+
+  pub proper : Proper question
+  proper = rw rows-read (record { valid = contents .valid; left-good = contents .good-x; right-good = contents .good-y })
+
+  pub rows-laid : new ≡ sets rows 0 (take (n * k) new)
+  rows-laid = rw rows-read (t .done .written)
+
+  -- so the comparison does not refuse it, and its answer is the walk's outcome
+  module _ {lent : Lent} (roomy : Roomy defaultRoom lent) {answer : Answer} {l : Lent} (compared : Compared (record { question = question; room = defaultRoom; lent = lent }) answer l) where
+    went : Walked (record { question = question; room = defaultRoom; lent = lent }) answer l
+    went = walked (compare-fine _ .1 (proper, roomy)) compared
+
+    pub answer-small : Small answer
+    answer-small = rw (went .answered) (small proper (went .walk))
+
+    pub answer-reported : {old : List ℕ} {r : ℕ} {out : List ℕ} → Put old 0 (answerText answer (l .lefts) (l .rights) (l .sequence)) r out
+        → Reports input old r out × Leaves input rows lent new l
+    answer-reported put = (
+      reported (answers asks (went .walk)) (put-as put text),
+      subst (λ (t : List ℕ). Leaves input rows lent t l) (sym rows-laid) (subst (λ (m : Lent). Leaves input rows lent (sets rows 0 (take (n * k) new)) m) (sym (went .left)) (laid asks (went .walk))),
+    )
+      where
+        text : answerText answer (l .lefts) (l .rights) (l .sequence) ≡ textOf (went .outcome)
+        text =
+            ap (λ (m : Lent). answerText answer (m .lefts) (m .rights) (m .sequence)) (went .left)
+            ∙ ap (λ (a : Answer). let m = layOut (keptOf (went .outcome)) (wordOf (went .outcome)) lent in answerText a (m .lefts) (m .rights) (m .sequence)) (went .answered)
+            ∙ answer-text (went .outcome) lent
