@@ -2,15 +2,12 @@
 use mathlib.Core.Path.{_≡_, refl, sym, ap, ap₂, _∙_, subst}
 use mathlib.Core.List.{List, [], _∷_, _++_, map}
 use Prim.Native.Nat.{ℕ, zero, suc}
-use native.Mathlib.Omega.{arith}
 use lib.ListN.{length, drop, length-map}
-use Rattle.verdict.specs.declared.Verdict.{Verdict}
-use Rattle.verdict.specs.declared.Verdict.the-variants.{Fine, Against}
-use Rattle.walk.specs.Walk.{Question, Record, Outcome, Walk}
-use Rattle.walk.specs.Answers.{Lent, Call, compareTest, answerOf, keptOf, wordOf, lay, layOut, Compared}
+use Rattle.walk.specs.Walk.{Question, Record}
+use Rattle.walk.specs.Answers.{Lent, answerOf, keptOf, wordOf, lay, layOut, Compared}
 use Rattle.walk.specs.Answers.Compared.{refuses, walks}
 use Rattle.walk.specs.declared.Answer.{Answer}
-use Rattle.walk.proofs.WalkUnique.{walk-unique}
+use Rattle.walk.proofs.CompareDetermined.{compare-determined}
 use Rattle.pressbadger.specs.declared.records.PbRecord.{PbRecord}
 use Rattle.pressbadger.specs.declared.lists.PbCompared.{PbCompared}
 use Rattle.pressbadger.specs.Lists.{compareAnswer}
@@ -70,39 +67,10 @@ pb-compare-by-columns {Q} {room} {records} {sequence} (Enters.walks {o} e w) =
       answers = refl;
     }
 
-against-fine : {w : ℕ} → _≡_ {A = Verdict} (Against w) Fine → ⊥
-against-fine e = let z : _≡_ {A = ℕ} 0 1 = cc in absurd (omega arith)
-
--- two results of the comparison over lists of numbers are one
-compared-once : {c : Call} {a b : Answer} {k l : Lent} → Compared c a k → Compared c b l → (a ≡ b) × (k ≡ l)
-compared-once (refuses {m} e) (refuses {n} d) = (ap (λ (v : Verdict). refusal v) (sym e ∙ d), refl)
-  where
-    refusal : Verdict → Answer
-    refusal Fine = Answer.Refused 0
-    refusal (Against w) = Answer.Refused w
-compared-once (refuses e) (walks d w) = absurd (against-fine (sym e ∙ d))
-compared-once (walks e w) (refuses d) = absurd (against-fine (sym d ∙ e))
-compared-once {c} (walks e w) (walks d v) = let same = walk-unique w v in (ap answerOf same, ap (λ (o : Outcome). layOut (keptOf o) (wordOf o) (c .lent)) same)
-
 -- the same answer and numbers as over the columns, and the columns of the records afterwards are what is left there
 pub pb-compare-agrees : {Q : Question} {room : ℕ} {records : List PbRecord} {sequence : List ℕ} {r : PbCompared} {after : List PbRecord} {word : List ℕ} {a : Answer} {left : Lent}
     → Enters Q room records sequence r after word → Compared (callOn Q room records sequence) a left → (r ≡ compareAnswer a) × (columns after word ≡ left)
 pb-compare-agrees e c =
     let by = pb-compare-by-columns e in
-    let same = compared-once (by .compared) c in
+    let same = compare-determined (by .compared) c in
     (by .answers ∙ ap compareAnswer (same .0), same .1)
-
--- ---- one result for every call
-
-pub pb-compare-determined : {Q : Question} {room : ℕ} {records : List PbRecord} {sequence : List ℕ} {r s : PbCompared} {after after′ : List PbRecord} {word word′ : List ℕ}
-    → Enters Q room records sequence r after word → Enters Q room records sequence s after′ word′ → (r ≡ s) × (after ≡ after′) × (word ≡ word′)
-pb-compare-determined (Enters.refuses e) (Enters.refuses d) = (ap (λ (v : Verdict). refusal v) (sym e ∙ d), refl, refl)
-  where
-    refusal : Verdict → PbCompared
-    refusal Fine = compareAnswer (Answer.Refused 0)
-    refusal (Against w) = compareAnswer (Answer.Refused w)
-pb-compare-determined (Enters.refuses e) (Enters.walks d w) = absurd (against-fine (sym e ∙ d))
-pb-compare-determined (Enters.walks e w) (Enters.refuses d) = absurd (against-fine (sym d ∙ e))
-pb-compare-determined {Q} {room} {records} {sequence} (Enters.walks e w) (Enters.walks d v) =
-    let same = walk-unique w v in
-    (ap (λ (o : Outcome). compareAnswer (answerOf o)) same, ap (λ (o : Outcome). layRecords (keptOf o) records) same, ap (λ (o : Outcome). lay (wordOf o) sequence) same)
