@@ -1,18 +1,28 @@
 -- Every export is determined: two results that its contract allows on one input are equal, answer, numbers and the later content of all that was lent.
 -- (`pb_judge` and `pb_version` are equations, so for them it is the contract itself.) Assumes nothing.
-use mathlib.Core.Path.{_≡_, sym, ap, _∙_}
+use mathlib.Core.Path.{_≡_, refl, sym, ap, _∙_}
 use mathlib.Core.List.{List}
 use Prim.Native.Nat.{ℕ}
 use Rattle.pattern.specs.Pattern.{Pattern}
+use Rattle.walk.specs.Walk.{Question, Outcome}
+use Rattle.walk.specs.Answers.{Lent, Call, answerOf, keptOf, wordOf, lay, Compared}
+use Rattle.walk.proofs.WalkUnique.{walk-unique}
+use Rattle.walk.proofs.CompareDetermined.{never-both, compare-determined}
 use Rattle.evidence.specs.Evidence.{Offer}
 use Rattle.evidence.proofs.Determined.{check-determined}
 use Rattle.patternfile.proofs.Determined.{reader-determined, writer-determined}
 use Rattle.pressbadger.specs.declared.checks.PbChecked.{PbChecked}
 use Rattle.pressbadger.specs.declared.files.PbPattern.{PbPattern}
 use Rattle.pressbadger.specs.declared.files.PbWritten.{PbWritten}
+use Rattle.pressbadger.specs.declared.lists.PbCompared.{PbCompared}
+use Rattle.pressbadger.specs.declared.records.PbRecord.{PbRecord}
 use Rattle.pressbadger.specs.Checks.{checkAnswer, ChecksOffer}
+use Rattle.pressbadger.specs.Lists.{compareAnswer, ComparesLists}
+use Rattle.pressbadger.specs.Records.{layRecords, Enters}
+use Rattle.pressbadger.specs.Records.Enters.{refuses, walks}
 use Rattle.pressbadger.specs.Files.{patternAnswer, ReadsPattern, writtenAnswer, WritesPattern}
 
+-- `pb_check`, and `pb_check_records` at the sides of the records
 pub pb-check-determined : {o : Offer} {r s : PbChecked} → ChecksOffer o r → ChecksOffer o s → r ≡ s
 pb-check-determined a b = a .answers ∙ ap checkAnswer (check-determined (a .checked) (b .checked)) ∙ sym (b .answers)
 
@@ -25,3 +35,21 @@ pub pb-write-determined : {P : Pattern} {x y : ℕ} {old : List ℕ} {r s : PbWr
 pb-write-determined {P} {x} {y} {old} {r} {s} {new} {new′} a b =
     let same = writer-determined P x y old (a .written) (b .written) new new′ (a .leaves) (b .leaves) in
     (a .answers ∙ ap writtenAnswer (same .0) ∙ sym (b .answers), same .1)
+
+pub pb-compare-lists-determined : {c : Call} {r s : PbCompared} {after after′ : Lent} → ComparesLists c r after → ComparesLists c s after′ → (r ≡ s) × (after ≡ after′)
+pb-compare-lists-determined a b =
+    let same = compare-determined (a .compared) (b .compared) in
+    (a .answers ∙ ap compareAnswer (same .0) ∙ sym (b .answers), same .1)
+
+-- `pb_compare`, and `pb_compare_default` at the default room
+pub pb-compare-determined : {Q : Question} {room : ℕ} {records : List PbRecord} {sequence : List ℕ} {r s : PbCompared} {after after′ : List PbRecord} {word word′ : List ℕ}
+    → Enters Q room records sequence r after word → Enters Q room records sequence s after′ word′ → (r ≡ s) × (after ≡ after′) × (word ≡ word′)
+pb-compare-determined (refuses e) (refuses d) = (ap compareAnswer (compare-determined (Compared.refuses e) (Compared.refuses d) .0), refl, refl)
+pb-compare-determined (refuses e) (walks d w) = never-both e d
+pb-compare-determined (walks e w) (refuses d) = never-both d e
+pb-compare-determined {Q} {room} {records} {sequence} (walks e w) (walks d v) =
+    let same = walk-unique w v in (
+      ap (λ (o : Outcome). compareAnswer (answerOf o)) same,
+      ap (λ (o : Outcome). layRecords (keptOf o) records) same,
+      ap (λ (o : Outcome). lay (wordOf o) sequence) same,
+    )

@@ -2,7 +2,7 @@
 use mathlib.Core.Path.{_≡_, refl, sym, ap, ap₂, _∙_, subst}
 use mathlib.Core.Bool.{Bool, true, false, _&&_}
 use mathlib.Core.List.{List, [], _∷_, _++_, map}
-use Prim.Native.Nat.{ℕ, zero, suc, _+_, _≤_, _<_}
+use Prim.Native.Nat.{ℕ, zero, suc, _≤_, _<_}
 use native.Mathlib.Omega.{arith}
 use native.Mathlib.Decide.{decLe}
 use lib.ListN.{length, getD, set, take, drop, length-map, List·getD-append, List·getD-map}
@@ -10,10 +10,9 @@ use lib.Seq.{take-suc, drop-cons, set-at, append-snoc, take-length, length-take-
 use lib.Dec.{leb}
 use borrow.Author.Tests.{le-leb, leb-true}
 use Rattle.verdict.specs.declared.Verdict.{Verdict}
-use Rattle.verdict.specs.declared.Verdict.the-variants.{Fine, Against}
 use Rattle.verdict.specs.Tests.{need, inOrder, each}
 use Rattle.pattern.specs.Tests.{setTest, shapeTest, masksTest}
-use Rattle.walk.specs.Walk.{Question, Record, leftsOf, rightsOf, parentsOf, lettersOf, Position, Outcome, Walk, Ends}
+use Rattle.walk.specs.Walk.{Question, Record, Position, Outcome, Walk, Ends}
 use Rattle.walk.specs.Walk.Outcome.{Same, Different, Full}
 use Rattle.walk.specs.Walk.Ends.{same, different, full}
 use Rattle.walk.specs.Answers.{Lent, Call, maxRoom, roomTest, compareTest, answerOf, keptOf, wordOf, lay, layOut, Compared}

@@ -1,18 +1,19 @@
 -- The sides that are gathered from a list of records, and what their check says of the whole list. Assumes nothing.
 use mathlib.Core.Path.{_≡_, refl, sym, ap, ap₂, _∙_, subst}
 use mathlib.Core.List.{List, [], _∷_, _++_, map}
-use Prim.Native.Nat.{ℕ, zero, suc, _+_, _≤_, _<_}
+use Prim.Native.Nat.{ℕ, zero, suc, _≤_, _<_}
 use native.Mathlib.Omega.{arith}
 use native.Mathlib.Decide.{decLe}
 use lib.ListN.{length, getD, set, take, length-set, length-map, List·getD-map}
 use lib.Seq.{take-suc, take-suc-set, take-all, length-take-le}
 use Rattle.verdict.specs.declared.Verdict.{Verdict}
 use Rattle.verdict.specs.declared.Verdict.the-variants.{Fine, Against}
-use Rattle.verdict.specs.Tests.{need, inOrder}
+use Rattle.verdict.specs.Tests.{inOrder}
 use Rattle.verdict.proofs.Ordered.{need-fails, order-fine}
 use Rattle.pattern.specs.Tests.{shapeTest}
 use Rattle.pattern.specs.Pattern.{Pattern}
 use Rattle.walk.specs.Answers.{maxRoom}
+use Rattle.walk.proofs.CompareDetermined.{never-both}
 use Rattle.evidence.specs.Evidence.{Offer, listTest, checkTest, Checked}
 use Rattle.evidence.specs.declared.Answer.{Answer}
 use Rattle.evidence.specs.Evidence.Checked.{refuses, not-started, started}
@@ -76,9 +77,6 @@ unfolding inOrder
 stops Fine w a b = refl
 stops (Against u) w a b = refl
 
-against-fine : {w : ℕ} → _≡_ {A = Verdict} (Against w) Fine → ⊥
-against-fine e = let z : _≡_ {A = ℕ} 0 1 = cc in absurd (omega arith)
-
 abbrev offer : Pattern → ℕ → ℕ → List ℕ → List ℕ → Offer
 offer P x y lefts rights = record { pattern = P; x = x; y = y; lefts = lefts; rights = rights }
 
@@ -96,10 +94,7 @@ module _ (P : Pattern) (x y : ℕ) (ls rs ls′ rs′ : List ℕ) (same : length
 
   never-fine : checkTest (offer P x y ls rs) ≡ Fine → ⊥
   unfolding checkTest
-  never-fine e =
-      let none = order-fine _ .0 e .1 .0 in
-      let z : _≡_ {A = Verdict} (Against 16) Fine = sym long-left ∙ none in
-      against-fine z
+  never-fine e = never-both long-left (order-fine _ .0 e .1 .0)
 
   checked-alike : {a : Answer} → Checked (offer P x y ls rs) a → Checked (offer P x y ls′ rs′) a
   checked-alike (refuses e) = refuses (sym refused-alike ∙ e)

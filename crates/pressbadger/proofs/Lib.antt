@@ -1,4 +1,5 @@
 -- Laws that belong to no one function: the list of records, then that every export is determined.
 pub mod Entering
+pub mod Agreeing
 pub mod Gathering
 pub mod Determined
