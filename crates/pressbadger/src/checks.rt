@@ -29,7 +29,7 @@ pub extern "C" fn pb_check(
     check_answer(answer)
 }
 
-fn check_answer(answer: Answer) -> PbChecked
+pub fn check_answer(answer: Answer) -> PbChecked
     ensures { λ r. ⌜ r ≡ checkAnswer answer ⌝ }
 {
     match answer {

@@ -8,6 +8,7 @@ use pattern::Judged;
 pub mod checks; // checks.rt: evidence checked
 pub mod files; // files.rt: pattern files, read and written
 pub mod lists; // lists.rt: the comparison over lists of numbers
+pub mod records; // records.rt: the comparison over a list of records, and the check of such a list
 
 // The answer to `pb_judge`.
 #[repr(C)]

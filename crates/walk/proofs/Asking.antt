@@ -1,13 +1,17 @@
--- Nothing is against a call exactly where the question is proper and the room is there. Assumes nothing.
+-- Nothing is against a call exactly where the question is proper and the room is there; what is against it is 10 or more. Assumes nothing.
 use mathlib.Core.Path.{_≡_}
 use mathlib.Core.Logic.{_↔_}
+use mathlib.Core.Bool.{Bool, true, false}
+use mathlib.Core.List.{List, [], _∷_, map}
 use Prim.Native.Nat.{ℕ, _≤_}
-use lib.ListN.{length}
+use native.Mathlib.Omega.{arith}
 use lib.Dec.{leb}
 use borrow.Author.Tests.{leb-true, le-leb}
-use Rattle.verdict.specs.declared.Verdict.the-variants.{Fine}
-use Rattle.verdict.specs.Tests.{need, each}
+use Rattle.verdict.specs.declared.Verdict.{Verdict}
+use Rattle.verdict.specs.declared.Verdict.the-variants.{Fine, Against}
+use Rattle.verdict.specs.Tests.{need, inOrder, each}
 use Rattle.verdict.proofs.Ordered.{need-holds, need-fine, order-fine}
+use Rattle.pattern.specs.Tests.{sizeTest, tableTest, setTest, shapeTest, masksTest}
 use Rattle.pattern.proofs.Validity.{set-fine, shape-fine, masks-fine}
 use Rattle.walk.specs.Answers.{Lent, Call, roomTest, compareTest}
 use Rattle.walk.specs.Meaning.{Proper, Roomy}
@@ -68,3 +72,50 @@ compare-fine c = (to, fro)
           shape-fine _ .1 (v .sized, v .tabled),
           (room-fine _ _ .1 r, (masks-fine _ .1 (v .finals-good, v .rows-good), (set-fine _ _ .1 (p .left-good), (set-fine _ _ .1 (p .right-good), tt)))),
         )
+
+-- ---- refusals are 10 and up
+
+record High (v : Verdict) : Type 0 where
+  least : (number : ℕ) → v ≡ Against number → 10 ≤ number
+
+data AllHigh : List Verdict → Type 0 where
+  none : AllHigh []
+  more : {v : Verdict} {tests : List Verdict} → High v → AllHigh tests → AllHigh (v ∷ tests)
+
+high-fine : High Fine
+high-fine = record { least = λ number e. absurd (let z : _≡_ {A = ℕ} 0 1 = cc in omega arith) }
+
+high-need : (b : Bool) (w : ℕ) → 10 ≤ w → High (need b w)
+unfolding need
+high-need true w h = high-fine
+high-need false w h = record { least = λ number e. let z : w ≡ number = cc in omega arith }
+
+high-order : {tests : List Verdict} → AllHigh tests → High (inOrder tests)
+unfolding inOrder
+high-order none = high-fine
+high-order (more {v = Fine} h hs) = high-order hs
+high-order (more {v = Against w} h hs) = h
+
+high-each : (test : ℕ → Verdict) → ((x : ℕ) → High (test x)) → (xs : List ℕ) → High (each test xs)
+unfolding each
+high-each test f xs = high-order (all xs)
+  where
+    all : (xs : List ℕ) → AllHigh (map test xs)
+    all [] = none
+    all (x ∷ xs) = more (f x) (all xs)
+
+pub refusal-number : (c : Call) {number : ℕ} → compareTest c ≡ Against number → 10 ≤ number
+unfolding compareTest shapeTest sizeTest tableTest roomTest masksTest setTest
+refusal-number c {number} e = high-order (more shape (more room (more masks (more (one-set _) (more (one-set _) none))))) .least number e
+  where
+    one-set : (mask : ℕ) → High (setTest (c .question .pattern .states) mask)
+    one-set mask = high-need _ 12 (omega arith)
+
+    shape : High (shapeTest (c .question .pattern))
+    shape = high-order (more (high-need _ 10 (omega arith)) (more (high-need _ 10 (omega arith)) (more (high-need _ 11 (omega arith)) none)))
+
+    room : High (roomTest (c .room) (c .lent))
+    room = high-each _ (λ most. high-need _ 13 (omega arith)) _
+
+    masks : High (masksTest (c .question .pattern))
+    masks = high-order (more (one-set _) (more (high-each _ one-set _) none))

@@ -1,11 +1,11 @@
 -- A column of a list of records, and values laid over a list, grow by one at the end. Assumes nothing.
-use mathlib.Core.Path.{_≡_, refl, sym, ap, _∙_}
+use mathlib.Core.Path.{_≡_, sym, ap, _∙_}
 use mathlib.Core.List.{List, [], _∷_, _++_, map, map-append, append-assoc}
 use Prim.Native.Nat.{ℕ, suc, _+_, _≤_, _<_}
 use native.Mathlib.Numerals.{add-one}
 use native.Mathlib.Omega.{arith}
-use lib.ListN.{length, getD, drop, set, length-append, length-map, length-drop, List·getD-append}
-use lib.Seq.{getD-at, set-at, drop-cons}
+use lib.ListN.{length, getD, take, drop, set, length-append, length-map, length-drop, List·getD-append}
+use lib.Seq.{getD-at, set-at, drop-cons, take-at}
 use Rattle.walk.specs.Walk.{Record}
 use Rattle.walk.specs.Answers.{lay}
 
@@ -30,3 +30,8 @@ lay-more values old n v e l =
 pub length-lay : (values old : List ℕ) → length values ≤ length old → length (lay values old) ≡ length old
 unfolding lay
 length-lay values old l = simp (length-append, length-drop) (omega arith)
+
+-- the first places hold the values
+pub take-lay : (values old : List ℕ) (n : ℕ) → length values ≡ n → take n (lay values old) ≡ values
+unfolding lay
+take-lay values old n e = take-at values _ n e

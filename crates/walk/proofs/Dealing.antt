@@ -1,18 +1,17 @@
 -- What `deal` leaves in each of its five ways out, over plain lists. Assumes nothing.
-use mathlib.Core.Path.{_≡_, refl, sym, ap, ap₂, _∙_, subst, subst₂}
-use mathlib.Core.Logic.{⊎-elim}
+use mathlib.Core.Path.{_≡_, refl, sym, ap, ap₂, _∙_, subst}
 use mathlib.Core.Bool.{Bool, true, false, not, Bool·beq, false≢true}
 use mathlib.Core.List.{List, [], _∷_, _++_, map}
 use Prim.Native.Nat.{ℕ, zero, suc, _+_, _≤_, _<_}
 use native.Mathlib.Nat.{mod-lt}
 use native.Mathlib.Numerals.{add-one}
 use native.Mathlib.Omega.{arith}
-use lib.ListN.{length, getD, take, set, length-append}
+use lib.ListN.{length, getD, take, length-append}
 use lib.Seq.{take-suc, getD-take, length-take-le, getD-set-same, getD-set-other}
 use Rattle.sets.specs.Sets.{meets}
 use Rattle.pattern.specs.Language.{reach, accepts}
 use Rattle.congruence.specs.Congruence.{Congruent, Listed}
-use Rattle.walk.specs.Walk.{Question, Record, leftsOf, rightsOf, parentsOf, lettersOf, candidate, candidates, upcoming, Implied, Agrees, Moves, Path, Word, Ends}
+use Rattle.walk.specs.Walk.{Question, Record, leftsOf, rightsOf, parentsOf, lettersOf, candidate, candidates, upcoming, Implied, Agrees, Moves, Path, Word}
 use Rattle.walk.specs.Walk.Moves.{skipped}
 use Rattle.walk.specs.Walk.Word.{first, later}
 use Rattle.walk.specs.Walk.Ends.{different, full}

@@ -1,10 +1,10 @@
 -- The candidate as the code makes it is the candidate of its number. Assumes nothing.
-use mathlib.Core.Path.{_≡_, refl, ap, _∙_}
+use mathlib.Core.Path.{_≡_, refl}
 use mathlib.Core.List.{List}
 use Prim.Native.Nat.{ℕ, zero, suc, _+_, _-_, _*_, _/_, _%_, _≤_, _<_}
 use native.Mathlib.Nat.{div-lt-iff-lt-mul, mul-comm}
 use native.Mathlib.Omega.{arith}
-use lib.ListN.{length, getD}
+use lib.ListN.{getD}
 use Rattle.pattern.specs.Pattern.{patternOf}
 use Rattle.pattern.specs.Language.{next}
 use Rattle.walk.specs.Walk.{candidate}

@@ -8,7 +8,7 @@ use native.Mathlib.Omega.{arith}
 use lib.ListN.{length, getD, set, length-append, length-map}
 use lib.Seq.{getD-take}
 use Rattle.verdict.specs.declared.Verdict.the-variants.{Fine}
-use Rattle.walk.specs.Walk.{Question, Record, leftsOf, rightsOf, parentsOf, lettersOf, Position, begin, upcoming, Remains, skip, keep, Moves, Outcome, Ends, Moved, Walk}
+use Rattle.walk.specs.Walk.{Record, begin, upcoming, Remains, keep, Moves, Moved}
 use Rattle.walk.specs.Walk.Outcome.{Same, Different, Full}
 use Rattle.walk.specs.Walk.Ends.{same}
 use Rattle.walk.specs.Walk.Moved.{stay, go}
@@ -22,7 +22,7 @@ use Rattle.walk.specs.declared.Answer.{Answer}
 use Rattle.walk.proofs.Columns.{column-snoc, lay-more, length-lay}
 use Rattle.walk.proofs.Sound.{Sound, sound-begin, sound-moved, fits-moved, moved-more}
 use Rattle.walk.proofs.Asking.{compare-fine}
-use Rattle.walk.proofs.Dealing.{Shown, shown, length-records, records-store}
+use Rattle.walk.proofs.Dealing.{shown, length-records, records-store}
 
 -- the same question with what is lent now
 abbrev pub later : Call → Lent → Call

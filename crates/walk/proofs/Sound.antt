@@ -2,17 +2,18 @@
 use mathlib.Core.Path.{_≡_, refl, sym, ap, _∙_, subst}
 use mathlib.Core.Logic.{⊎-elim}
 use mathlib.Core.List.{List, [], _∷_, _++_}
-use Prim.Native.Nat.{ℕ, zero, suc, _+_, _*_, _/_, _%_, _≤_, _<_}
+use Prim.Native.Nat.{ℕ, zero, suc, _+_, _/_, _%_, _≤_, _<_}
 use native.Mathlib.Nat.{div-lt-iff-lt-mul, mod-lt, mul-comm, mul-add, mul-one, eq-or-lt-of-le, le-of-suc-le-suc}
 use native.Mathlib.Omega.{arith}
 use lib.ListN.{length, getD, length-append, length-map}
+use Rattle.pattern.specs.Pattern.{Sized}
 use Rattle.pattern.specs.Language.{next, reach, accepts, Over}
 use Rattle.pattern.specs.Language.Over.{empty}
 use Rattle.pattern.proofs.Words.{reach-snoc, over-snoc}
 use Rattle.congruence.specs.Congruence.{Congruent, Listed}
 use Rattle.congruence.specs.Congruence.Congruent.{given}
 use Rattle.congruence.proofs.Laws.{monotone}
-use Rattle.walk.specs.Walk.{Question, Record, leftsOf, rightsOf, parentsOf, lettersOf, candidate, candidates, Position, begin, upcoming, Implied, Agrees, Moves, Path, Moved}
+use Rattle.walk.specs.Walk.{Question, Record, leftsOf, rightsOf, parentsOf, lettersOf, candidate, candidates, Position, begin, upcoming, Implied, Agrees, Moves, Path, Outcome, Moved, Walk}
 use Rattle.walk.specs.Walk.Moves.{skipped}
 use Rattle.walk.specs.Walk.Path.{start, further}
 use Rattle.walk.specs.Walk.Moved.{stay, go}
@@ -183,6 +184,11 @@ module _ (Q : Question) (pos : 0 < Q .pattern .letters) where
   pub sound-moved : {room : ℕ} {p q : Position} → Moved Q room p q → Sound Q p → Sound Q q
   sound-moved stay s = s
   sound-moved (go m n) s = sound-moved n (sound-move m s)
+
+-- ---- the end of a walk
+
+pub walk-sound : {Q : Question} {room : ℕ} {o : Outcome} → Sized (Q .pattern .states) (Q .pattern .letters) → (w : Walk Q room o) → Sound Q (w .last)
+walk-sound {Q} sized w = sound-moved Q (sized .some-letter) (w .moved) (sound-begin Q (sized .some-letter))
 
 -- ---- the room
 

@@ -9,7 +9,7 @@ use lib.Seq.{take-suc, set-at, length-take-le, set-split, drop-at}
 use Rattle.walk.specs.Walk.{Path}
 use Rattle.walk.specs.Answers.{lay}
 use Rattle.walk.specs.Inner.{Spelt}
-use Rattle.walk.proofs.Paths.{path-unique, Further, further-of, ended-of}
+use Rattle.walk.proofs.Paths.{path-unique, further-of, ended-of}
 
 -- ---- the first loop: so many letters are passed, and i is where we stand
 

@@ -5,7 +5,7 @@
 --   Ready, DealtWith   a position from which the walk can go on, and what dealing with one candidate leaves
 use mathlib.Core.Path.{_≡_}
 use mathlib.Core.List.{List, [], _∷_, _++_}
-use Prim.Native.Nat.{ℕ, zero, suc, _+_, _*_, _≤_, _<_}
+use Prim.Native.Nat.{ℕ, zero, suc, _+_, _≤_, _<_}
 use lib.ListN.{length, getD, set}
 use Rattle.pattern.specs.Pattern.{Valid}
 use Rattle.walk.specs.Walk.{questionOf, Record, leftsOf, rightsOf, candidate, Position, upcoming, Remains, skip, keep, Moves, Path, Ends}

@@ -5,11 +5,13 @@
 
 use crate::host;
 use crate::lent::Lent;
-use crate::probes::{self, Probed};
+use crate::probes::{self, Lists, ProbeCompared, Probed};
 use reference::answers::DONE;
 use reference::evidence::Check;
 use reference::file::{Reading, Writing};
 use reference::pattern::Pattern;
+use reference::questions::Question;
+use reference::walk::{Comparison, Record};
 
 /// The answer to one sequence judged from one set.
 pub fn judge(pattern: &Pattern, set: u64, sequence: &[u8]) -> u64 {
@@ -151,5 +153,74 @@ pub fn write_number(length: usize, at: usize, value: u64) -> Result<Vec<u8>, u64
             bytes.assert_unchanged();
             Err(refusal)
         }
+    }
+}
+
+/// How long what is lent to a comparison is: four lists for the records, and the sequence.
+#[derive(Clone, Copy, Debug, PartialEq, Eq)]
+pub struct Lengths {
+    /// The lists for left sets, right sets, parents and letters.
+    pub lists: [usize; 4],
+    /// The sequence bytes.
+    pub sequence: usize,
+}
+
+impl Lengths {
+    /// All of one length.
+    pub fn all(length: usize) -> Lengths {
+        Lengths {
+            lists: [length; 4],
+            sequence: length,
+        }
+    }
+}
+
+/// What a comparison in a room gives, with lists of the given lengths. All numbers are taken over
+/// as they come, on a refusal too.
+pub fn compare(question: &Question, room: u64, lengths: Lengths) -> Comparison {
+    let call = |rows: &[u64], lists: Lists| probes::compare(question, rows, room as usize, lists);
+    compared(&question.pattern, lengths, call)
+}
+
+/// What the comparison's short form gives.
+pub fn compare_default(question: &Question, lengths: Lengths) -> Comparison {
+    let call = |rows: &[u64], lists: Lists| probes::compare_default(question, rows, lists);
+    compared(&question.pattern, lengths, call)
+}
+
+fn compared(
+    pattern: &Pattern,
+    lengths: Lengths,
+    call: impl FnOnce(&[u64], Lists) -> ProbeCompared,
+) -> Comparison {
+    let rows = Lent::holding(&pattern.rows);
+    let [lefts, rights, parents, taken] = lengths.lists;
+    let (mut lefts, mut rights) = (Lent::blank(lefts), Lent::blank(rights));
+    let (mut parents, mut taken) = (Lent::blank(parents), Lent::blank(taken));
+    let mut sequence = Lent::blank(lengths.sequence);
+    let lists = Lists {
+        lefts: lefts.get_mut(),
+        rights: rights.get_mut(),
+        parents: parents.get_mut(),
+        taken: taken.get_mut(),
+        sequence: sequence.get_mut(),
+    };
+    let found = call(rows.get(), lists);
+    rows.assert_unchanged();
+    let (lefts, rights) = (lefts.written(0..found.kept), rights.written(0..found.kept));
+    let (parents, taken) = (parents.written(0..found.kept), taken.written(0..found.kept));
+    let record = |number: usize| Record {
+        left: lefts[number],
+        right: rights[number],
+        parent: u64::from(parents[number]),
+        letter: u64::from(taken[number]),
+    };
+    Comparison {
+        answer: u64::from(found.answer),
+        kept: found.kept as u64,
+        examined: found.examined as u64,
+        length: found.length as u64,
+        records: (0..found.kept).map(record).collect(),
+        sequence: sequence.written(0..found.length).to_vec(),
     }
 }

@@ -8,6 +8,7 @@
 use reference::answers::NAMES;
 use reference::congruence::Pair;
 use reference::pattern::Pattern;
+use reference::questions::Question;
 use std::collections::{BTreeMap, HashSet};
 use std::path::Path;
 
@@ -131,6 +132,15 @@ impl Case {
             },
             _ => panic!("{}: {key} is no pattern", self.name),
         }
+    }
+
+    /// The pattern and the two starts: X and Y.
+    pub fn question(&self) -> Question {
+        let [x, y] = self.numbers("starts")[..] else {
+            panic!("{}: there are two starts", self.name);
+        };
+        let pattern = self.pattern("pattern");
+        Question { pattern, x, y }
     }
 
     /// The answer of a key, by its name.

@@ -1,4 +1,4 @@
--- `walk::compare` makes its tests and then the walk.
+-- `walk::compare` refuses by its tests, or makes the walk.
 use mathlib.Core.Path.{sym, _∙_}
 use borrow.Author.Needs.{needs}
 use Rattle.walk.specs.Answers.Compared.{refuses}
@@ -34,8 +34,9 @@ enum-told c = search needs
 
 run-requires : tie.Need-run-requires
 run-requires c κs =
-    let fine = c .before .before .before .before .before in
-    sym (fine .before .before .compare-test .ensures) ∙ fine .enum-told .given .1
+    let lent = c .before .before .before in
+    let told = lent .before .before in
+    sym (told .before .before .compare-test .ensures) ∙ told .enum-told .given .1
 
 same-length-6 : tie.Need-same-length-6
 same-length-6 c = search needs

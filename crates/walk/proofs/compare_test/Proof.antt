@@ -1,10 +1,10 @@
 -- `walk::compare_test` makes its five tests in order.
-use mathlib.Core.Path.{_≡_, refl, sym, _∙_}
+use mathlib.Core.Path.{_≡_, sym, _∙_}
 use mathlib.Core.List.{[], _∷_}
 use borrow.Author.Needs.{needs}
 use Rattle.verdict.specs.Tests.{inOrder}
 use Rattle.verdict.proofs.Ordered.{order-stop, order-next, order-last}
-use Rattle.pattern.specs.Tests.{setTest, shapeTest, masksTest}
+use Rattle.pattern.specs.Tests.{setTest, masksTest}
 use Rattle.walk.specs.Answers.{Call, lentOf, callOf, roomTest, compareTest}
 use Rattle.walk.proofs.compare_test.Statement.{statement}
 use Rattle.walk.proofs.compare_test.Tie as tie

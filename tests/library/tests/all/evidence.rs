@@ -49,11 +49,7 @@ const PROVED_AT_0: Check = Check {
 fn the_named_lists_are_checked_as_they_should() {
     let keys = ["pattern", "starts", "pairs", "answer", "place"];
     for case in cases::load("check.txt", &keys, &[]) {
-        let question = Question {
-            pattern: case.pattern("pattern"),
-            x: case.numbers("starts")[0],
-            y: case.numbers("starts")[1],
-        };
+        let question = case.question();
         let found = assert_pairs(&question, &case.pairs("pairs"));
         let wanted = (case.answer("answer"), case.number("place"));
         assert_eq!((found.answer, found.place), wanted, "{}", case.name);

@@ -39,6 +39,19 @@ fn file(question: &Question) -> Vec<u8> {
     written.bytes
 }
 
+/// The reading of a question's whole file.
+fn done(question: Question) -> Reading {
+    let Question { pattern, x, y } = question;
+    let (answer, place) = (DONE, 0);
+    Reading {
+        answer,
+        place,
+        pattern,
+        x,
+        y,
+    }
+}
+
 /// Catches what the file says of each case.
 #[test]
 fn the_named_files_are_read_as_they_should() {
@@ -47,13 +60,7 @@ fn the_named_files_are_read_as_they_should() {
         let found = assert_read(&case.bytes("bytes"), case.number("rows") as usize);
         let answer = case.answer("answer");
         let wanted = match answer {
-            DONE => Reading {
-                answer,
-                place: 0,
-                pattern: case.pattern("pattern"),
-                x: case.numbers("starts")[0],
-                y: case.numbers("starts")[1],
-            },
+            DONE => done(case.question()),
             _ => Reading {
                 answer,
                 place: case.number("place"),
@@ -69,11 +76,7 @@ fn the_named_files_are_read_as_they_should() {
 fn the_named_patterns_are_written_as_they_should() {
     let keys = ["pattern", "starts", "room", "answer"];
     for case in cases::load("write.txt", &keys, &["bytes"]) {
-        let question = Question {
-            pattern: case.pattern("pattern"),
-            x: case.numbers("starts")[0],
-            y: case.numbers("starts")[1],
-        };
+        let question = case.question();
         let answer = assert_written(&question, case.number("room") as usize);
         assert_eq!(answer, case.answer("answer"), "{}", case.name);
         if answer == DONE {
@@ -192,16 +195,7 @@ fn what_is_written_is_read_back() {
         assert_eq!(assert_written(&question, bytes.len()), DONE);
         assert_eq!(assert_written(&question, bytes.len() - 1), NO_ROOM);
         let reading = assert_read(&bytes, question.pattern.rows.len());
-        let Question { pattern, x, y } = question;
-        let (answer, place) = (DONE, 0);
-        let wanted = Reading {
-            answer,
-            place,
-            pattern,
-            x,
-            y,
-        };
-        assert_eq!(reading, wanted);
+        assert_eq!(reading, done(question));
     }
 }
 

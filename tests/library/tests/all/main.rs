@@ -1,4 +1,4 @@
-//! The proved library held to the reference: the theory's functions, then the host's calls.
+//! The proved library held to the reference: the theory's functions, the calls, the wrapper.
 
 #![forbid(unsafe_code)]
 
@@ -10,8 +10,11 @@ mod numbers;
 mod pattern;
 mod sets;
 
+mod automata;
+mod comparison;
 mod evidence;
 mod files;
 mod judge;
+mod rooms;
 
 mod wrapper;

@@ -1,0 +1,47 @@
+-- `pressbadger::records::find` finds, in columns of its own, what a list of records is to be given.
+use mathlib.Core.Path.{refl}
+use borrow.Author.Needs.{needs}
+use Rattle.pressbadger.proofs.Entering.{finding}
+use Rattle.pressbadger.proofs.records.find.Statement.{statement}
+use Rattle.pressbadger.proofs.records.find.Tie as tie
+
+asked-requires : tie.Need-asked-requires
+asked-requires c κs = search needs
+
+slice-aggregate-compare : tie.Need-slice-aggregate-compare
+slice-aggregate-compare c = search needs
+
+slice-aggregate-compare-2 : tie.Need-slice-aggregate-compare-2
+slice-aggregate-compare-2 c = search needs
+
+slice-aggregate-compare-3 : tie.Need-slice-aggregate-compare-3
+slice-aggregate-compare-3 c = search needs
+
+slice-aggregate-compare-4 : tie.Need-slice-aggregate-compare-4
+slice-aggregate-compare-4 c = search needs
+
+compare-requires : tie.Need-compare-requires
+compare-requires c κs = search needs
+
+compare-answer-requires : tie.Need-compare-answer-requires
+compare-answer-requires c κs = search needs
+
+same-length : tie.Need-same-length
+same-length c = search needs
+
+returns : tie.Need-returns
+returns c = finding (c .compare-answer .result) (c .compare-answer .ensures) (c .before .before .before .before .before .before .before .compare .ensures) (c .before .before .before .before .before .before .before .before .before .before .before .before .before .asked .ensures) refl refl refl refl
+
+pub find-spec : {M : Type 1} → statement M
+find-spec =
+    tie.close
+    (tie.spec
+    asked-requires
+    slice-aggregate-compare
+    slice-aggregate-compare-2
+    slice-aggregate-compare-3
+    slice-aggregate-compare-4
+    compare-requires
+    compare-answer-requires
+    same-length
+    returns)
