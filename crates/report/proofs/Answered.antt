@@ -1,13 +1,13 @@
 -- The text of an answer, by its cases; and of the answer to a question that is not refused: the text of the walk's outcome. Assumes nothing.
-use mathlib.Core.Path.{_≡_, refl, ap, _∙_, subst}
+use mathlib.Core.Path.{_≡_, refl, ap}
 use mathlib.Core.List.{List, [], _∷_, _++_, map}
 use Prim.Native.Nat.{ℕ, _≤_}
-use lib.ListN.{length, take, drop, length-map}
-use lib.Seq.{take-at}
+use lib.ListN.{length, take, length-map}
 use Rattle.walk.specs.declared.Answer.{Answer}
 use Rattle.walk.specs.Walk.{Record, leftsOf, rightsOf, Outcome}
 use Rattle.walk.specs.Walk.Outcome.{Same, Different, Full}
-use Rattle.walk.specs.Answers.{Lent, answerOf, keptOf, wordOf, lay, layOut}
+use Rattle.walk.specs.Answers.{Lent, answerOf, keptOf, wordOf, layOut}
+use Rattle.walk.proofs.Columns.{take-lay}
 use Rattle.text.specs.Text.{word, decimal, line}
 use Rattle.events.specs.Events.{eventName}
 use Rattle.report.specs.Report.{recordLines, textOf, refusalText}
@@ -47,10 +47,6 @@ pub record-lines : (kept : List Record) → pairLines (leftsOf kept) (rightsOf k
 unfolding pairLines recordLines
 record-lines [] = refl
 record-lines (r ∷ kept) = ap (λ (l : List ℕ). line (decimal (r .left) ∷ decimal (r .right) ∷ []) ++ l) (record-lines kept)
-
-take-lay : (values old : List ℕ) (n : ℕ) → length values ≡ n → take n (lay values old) ≡ values
-unfolding lay
-take-lay values old n e = take-at values (drop (length values) old) n e
 
 pub answer-text : (o : Outcome) (old : Lent) → let new = layOut (keptOf o) (wordOf o) old in answerText (answerOf o) (new .lefts) (new .rights) (new .sequence) ≡ textOf o
 unfolding answerText textOf layOut

@@ -2,5 +2,7 @@
 pub mod Lines
 pub mod Lengths
 pub mod Answered
-pub mod Determined
 pub mod Reporting
+pub mod Determined
+pub mod Capped
+pub mod Examples

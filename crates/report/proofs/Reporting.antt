@@ -1,11 +1,11 @@
 -- From what the reader and the comparison ensure to what is reported: a file that was read is never refused by the comparison. Assumes nothing.
 use mathlib.Core.Path.{_≡_, refl, sym, ap, _∙_, subst}
-use mathlib.Core.List.{List, [], _∷_, _++_}
-use Prim.Native.Nat.{ℕ, _+_, _*_, _/_, _%_, _<_, _≤_}
+use mathlib.Core.List.{List}
+use Prim.Native.Nat.{ℕ, _+_, _*_, _≤_}
 use native.Mathlib.Omega.{arith}
-use lib.ListN.{length, take, drop, length-append}
+use lib.ListN.{length, take, drop}
 use lib.Seq.{sets, sets-eq, take-at, length-take-le}
-use Rattle.verdict.specs.declared.Verdict.the-variants.{Fine, Against}
+use Rattle.verdict.specs.declared.Verdict.the-variants.{Fine}
 use Rattle.pattern.specs.Pattern.{patternOf}
 use Rattle.numbers.specs.Numbers.{AreBytes}
 use Rattle.patternfile.specs.declared.PatternRead.{PatternRead}
@@ -13,15 +13,12 @@ use Rattle.patternfile.specs.declared.PatternRead.the-variants as Read
 use Rattle.patternfile.specs.Reader.{ReadDone, ReadRefused, Reads}
 use Rattle.patternfile.proofs.Contents.{Contents, accepted-valid}
 use Rattle.walk.specs.declared.Answer.{Answer}
-use Rattle.walk.specs.Walk.{Question, questionOf, Record, candidates, Word, Outcome, Ends, Walk}
-use Rattle.walk.specs.Walk.Word.{first, later}
-use Rattle.walk.specs.Walk.Outcome.{Same, Different, Full}
-use Rattle.walk.specs.Walk.Ends.{same, different, full}
+use Rattle.walk.specs.Walk.{Question, questionOf, Outcome, Walk}
 use Rattle.walk.specs.Answers.{Lent, Call, defaultRoom, answerOf, keptOf, wordOf, layOut, compareTest, Compared}
 use Rattle.walk.specs.Meaning.{Proper, Roomy}
-use Rattle.walk.proofs.Paths.{path-unique}
-use Rattle.walk.proofs.Sound.{Reached, sound-begin, sound-moved, from-below, fits-moved}
 use Rattle.walk.proofs.Asking.{compare-fine}
+use Rattle.walk.proofs.CompareDetermined.{never-both}
+use Rattle.walk.proofs.CompareHonest.{compare-valid, compare-honest}
 use Rattle.text.specs.Text.{Put}
 use Rattle.text.proofs.Putting.{put-length, put-as}
 use Rattle.report.specs.Report.{textOf, refusalText, rowRoom, Asks, Refuses, Prints, Leaves, Reports}
@@ -48,38 +45,15 @@ refusal-reported input rows new {number = number} {place} size reads q put lent 
 
 -- ---- the comparison of a question that is not refused
 
-pub record Walked (c : Call) (answer : Answer) (l : Lent) : Type 0 where
+record Walked (c : Call) (answer : Answer) (l : Lent) : Type 0 where
   pub outcome : Outcome
   pub walk : Walk (c .question) (c .room) outcome
   pub answered : answer ≡ answerOf outcome
   pub left : l ≡ layOut (keptOf outcome) (wordOf outcome) (c .lent)
 
-pub walked : {c : Call} {answer : Answer} {l : Lent} → compareTest c ≡ Fine → Compared c answer l → Walked c answer l
-walked fine (Compared.refuses {number} against) = let e : Fine ≡ Against number = sym fine ∙ against in let z : _≡_ {A = ℕ} 0 1 = cc in absurd (omega arith)
-walked fine (Compared.walks {o} t w) = record { outcome = o; walk = w; answered = refl; left = refl }
-
--- the sequence is no longer than the records are many
-word-short : {Q : Question} {kept : List Record} {e : ℕ} {w : List ℕ} → 0 < Q .pattern .letters → ((i : ℕ) → i < length kept → Reached Q kept i) → e < candidates Q kept
-    → Word Q kept e w → length w ≤ length kept
-word-short some reached l first = omega arith
-word-short {Q} {kept} some reached l (later {e} {w = v} path) =
-    let below = from-below Q some kept e l in
-    let way = reached (e / Q .pattern .letters) below in
-    omega (arith, length-append v (e % Q .pattern .letters ∷ []), ap length (path-unique path (way .path)), way .short, below)
-
-small : {Q : Question} {o : Outcome} → Proper Q → Walk Q defaultRoom o → Small (answerOf o)
-small {Q} proper w = go (w .ends)
-  where
-    some : 0 < Q .pattern .letters
-    some = proper .valid .sized .some-letter
-
-    few : length (w .last .kept) ≤ 1024
-    few = fits-moved (w .moved) (omega arith)
-
-    go : {o : Outcome} → Ends Q defaultRoom (w .last) o → Small (answerOf o)
-    go (same n) = record { few = few; short = omega arith }
-    go (different l f a v) = record { few = few; short = omega (arith, few, word-short some (sound-moved Q some (w .moved) (sound-begin Q some) .reached) l v) }
-    go (full l f a h) = record { few = few; short = omega arith }
+walked : {c : Call} {answer : Answer} {l : Lent} → compareTest c ≡ Fine → Compared c answer l → Walked c answer l
+walked fine (Compared.refuses against) = never-both against fine
+walked fine (Compared.walks {o} f w) = record { outcome = o; walk = w; answered = refl; left = refl }
 
 -- ---- a file that was read
 
@@ -126,7 +100,9 @@ module _ {input rows : List ℕ} {n k f x y : ℕ} {new : List ℕ} (t : Taken i
     went = walked (compare-fine _ .1 (proper, roomy)) compared
 
     pub answer-small : Small answer
-    answer-small = rw (went .answered) (small proper (went .walk))
+    answer-small =
+        let told = compare-honest compared (compare-valid proper roomy compared) in
+        record { few = told .kept-fits; short = omega (arith, told .length-fits, told .kept-fits) }
 
     pub answer-reported : {old : List ℕ} {r : ℕ} {out : List ℕ} → Put old 0 (answerText answer (l .lefts) (l .rights) (l .sequence)) r out
         → Reports input old r out × Leaves input rows lent new l

@@ -45,8 +45,8 @@ fn put_record(out: &mut [u8], at: usize, left: u64, right: u64) -> usize
     ensures { λ r. ⌜ Put (now (out .entry)) at (line (decimal left ∷ decimal right ∷ [])) r (now (out .exit)) ⌝ }
 {
     let first = put_decimal(out, at, left);
-    let last = put_number(out, first, right);
-    put_byte(out, last, b'\n')
+    let second = put_number(out, first, right);
+    put_byte(out, second, b'\n')
 }
 
 // A line for each record.
