@@ -1,97 +1,193 @@
-import os, sys
-here = os.path.dirname(os.path.abspath(__file__)); sys.path.insert(0, here)
-from context import Ctx
-SUB = str.maketrans('0123456789', '₀₁₂₃₄₅₆₇₈₉')
-def l(k): return 'l' + str(k).translate(SUB)
-NL = 9
+# Writes the proof of `fill`: the loop from four arrays into a list of records.
+import os
+import re
+from context import Ctx, items, l, sub, write
+
+NL = 28
+# number, field of what was found, width, slot, and the locals that an element is read by: its offset, the slot's address, its place, its value
+COLUMNS = [(1, 'lefts', 'w64', 'u64', 4, 10, 11, 12, 13), (2, 'rights', 'w64', 'u64', 5, 14, 15, 16, 17), (3, 'parents', 'w16', 'u16', 6, 18, 19, 20, 21), (4, 'taken', 'w8', 'u8', 7, 8, 22, 23, 24)]
+SIZES = {'w64': 8, 'w16': 2, 'w8': 1}
 frame = ['_0', '_1', '_2', '_3', 'oborT', 'obsT', 'authT'] + ['d%d' % k for k in range(NL)]
-loopctx = ['rowT'] + ['_%d' % k for k in range(4, 9)] + frame
-def test(c): c.set('_5', '(bin ! %s %s tt)' % (c.load('_4'), c.load('_2')), '(tt, tt)')
-# ---- the turn
-c = Ctx(loopctx); test(c); close = 0
-c.say('rewrite ! %d (λ (t : Bool). ‵ (fat fullShare tyBool %s 0 (vbool t))) (holds (ltb i n) (lt→ltb i n small)) refl $' % (c.at('_5'), l(5)))
-c.say('stays ! %s $' % c.load('_5'))
-c.say('-- record_at(found, i)')
-c.say('owned ! F.the-row (Is F.the-row) ((LL.makes F.the-type F′.the-plain) 𝓤 H A) found (vF ∷ []) is-found $'); c.c.insert(0, 'pre')
-c.say('use1 W (raw (RecordAt 𝓤 H A mem run .pre (to-at i))) (goes-at i small) $')
-c.say('calls-at ! (fmOf 𝓤 H (W .laws) 𝓣) (RecordAt 𝓤 H A mem run) known (to-at i) (and-then ! %s (and-then ! %s (no-more !))) (λ v.' % (c.load('_1'), c.load('_4'))); close += 1
-c.say('use1 W (later (some (λ (r : PbRecord). (‵ ftrue ⊛ ‵ (T.the-row .own r (v ∷ []))) ⊛ raw (ensured 𝓤 H A at′.ended (at′.clauses 𝓤 H A mem run) tt (found, (i, tt)) tt r)))) (id⊢ 𝓤 _) $ await ! tt $ pick ! (λ r.'); close += 1
-c.head(1, 'ret'); c.split('ret', 'tr', 'ens'); c.move('ens')
-c.say('use1 W (raw (fact 𝓤 (r ≡ recordAt found i))) (at-of i r) $ heard ! (r ≡ recordAt found i) (λ e.'); close += 1; c.c = c.c[1:]
-c.split('tr', 'tk', 'ownN'); c.drop('tk'); c.move('ownN')
-c.say('peeks ! T.the-row (Is T.the-row) (shows 𝓤 H A T.the-row) r (v ∷ []) (λ is.'); close += 1
-typed = '(LL.lawful T.the-type T′.the-laws 𝓤 H A W .typed r _ is .0)'
-c.say('land ! (from ! (stop !)) (init ! %d refl %s) $' % (c.at('_6'), typed))
+loop = ['rowT', 'row1', 'row2', 'row3', 'row4'] + ['_%d' % k for k in range(8, NL)] + frame
+tys = ['tyUnit', 'F′.mir', 'word', 'recordsTy', '(column w64)', '(column w64)', '(column w16)', '(column w8)', 'word', 'tyBool',
+       'word', 'tyPtr', 'tyPtr', 'word', 'word', 'tyPtr', 'tyPtr', 'word', 'word', 'tyPtr', 'tyPtr', '(tyInt w16)', 'tyPtr', 'tyPtr', '(tyInt w8)', 'T′.mir', 'word', 'tyPtr']
+homes = ['memorySlot' if k in (4, 5, 6, 7) else 'valueLocal' for k in range(NL)]
+
+
+def test(c):
+    c.set('_9', '(bin ! %s %s tt)' % (c.load('_8'), c.load('_2')), '(tt, tt)')
+
+
+# ---- one turn
+c = Ctx(loop)
+test(c)
+c.say('rewrite ! %d (λ (t : Bool). ‵ (fat fullShare tyBool %s 0 (vbool t))) (holds (ltb i n) (lt→ltb i n small)) refl $' % (c.at('_9'), l(9)))
+c.say('stays ! %s $' % c.load('_9'))
+for k, name, w, row, slot, offset, base, place, value in COLUMNS:
+    j = sub(k)
+    got = '(getD (found .%s) i 0)' % name
+    c.say('-- %s[i]' % name)
+    if w != 'w8':
+        fit = '(record { fits = %s i n small (within .0) })' % {'w64': 'eights-fit', 'w16': 'twos-fit'}[w]
+        c.set('_%d' % offset, '(bin ! %s (lit ! tt) %s)' % (c.load('_8'), fit), '(tt, %s)' % fit)
+    c.set('_%d' % base, '(addr ! (from ! (stop !)))', '(tt, tt)')
+    c.set('_%d' % place, '(bin ! %s %s tt)' % (c.load('_%d' % base), c.load('_%d' % offset)), '(tt, tt)')
+    at = '(sym (place-byte 0 i))' if w == 'w8' else '(sym (place-is %d 0 i))' % SIZES[w]
+    c.say('rewrite ! %d (λ (m : ℕ). ‵ (fat fullShare tyPtr %s 0 (vptr %s m))) %s refl $' % (c.at('_%d' % place), l(place), l(slot), at))
+    c.move('row%d' % k)
+    c.bind('elem-out ! %s (Is %s) (shows 𝓤 H A %s) (uint-vals %s) (uint-tells %s) fullShare (found .%s) i 0 %s 0 (in%s i small) (λ g%s.' % (row, row, row, w, w, name, l(slot), j, j))
+    c.head(1, 'cell', 'own', 'others')
+    c.set('_%d' % value, '(of-opd ! (load ! (from ! (hop ! %s (stop !))) (look ! 0 refl)))' % c.look('_%d' % place), '(tt, record { fits = g%s .1 })' % j)
+    c.say('elem-back ! %s fullShare (found .%s) i 0 (vint %s %s ∷ []) %s 0 (in%s i small) $' % (row, name, w, got, l(slot), j))
+    c.head(3, 'row%d' % k)
 c.say('-- records[i]')
-fit = '(record { fits = offset-fits i (length xs) (inT i small) (roomT .1) })'
-c.set('_7', '(bin ! %s (lit ! tt) %s)' % (c.load('_4'), fit), '(tt, %s)' % fit)
-c.set('_8', '(bin ! %s %s tt)' % (c.field('_3', 0), c.load('_7')), '(tt, tt)')
-c.say('rewrite ! %d (λ (m : ℕ). ‵ (fat fullShare tyPtr %s 0 (vptr b m))) (sym (place-is 24 o i)) refl $' % (c.at('_8'), l(8)))
+typed = '(tt, (record { fits = g₁ .1 }, (record { fits = g₂ .1 }, (record { fits = g₃ .1 }, (record { fits = g₄ .1 }, tt)))))'
+c.set('_25', '(agg ! %s(no-more !)%s)' % (''.join('(and-then ! %s ' % c.load('_%d' % x[8]) for x in COLUMNS), ')' * 4), typed)
+fit = '(record { fits = record-fits i (length xs) (inT i small) (room .1) })'
+c.set('_26', '(bin ! %s (lit ! tt) %s)' % (c.load('_8'), fit), '(tt, %s)' % fit)
+c.set('_27', '(bin ! %s %s tt)' % (c.field('_3', 0), c.load('_26')), '(tt, tt)')
+c.say('rewrite ! %d (λ (m : ℕ). ‵ (fat fullShare tyPtr %s 0 (vptr b m))) (sym (place-is 24 o i)) refl $' % (c.at('_27'), l(27)))
 c.move('rowT')
-c.say('elem-out ! T.the-row (Is T.the-row) (shows 𝓤 H A T.the-row) (LL.vals T.the-type T′.the-laws) (LL.tells T.the-type T′.the-laws) fullShare (at i) i none b o (inF i small) (λ _.'); close += 1
+c.bind('elem-out ! T.the-row (Is T.the-row) (shows 𝓤 H A T.the-row) (LL.vals T.the-type T′.the-laws) (LL.tells T.the-type T′.the-laws) fullShare (at i) i blank b o (inF i small) (λ _.')
 c.head(1, 'cell', 'own', 'others')
-c.assigns('(of-opd ! %s)' % c.load('_6'), '(from ! (hop ! %s (stop !)))' % c.look('_8'), '(store-raw ! 0 refl %s)' % typed)
+c.assigns('(of-opd ! %s)' % c.load('_25'), '(from ! (hop ! %s (stop !)))' % c.look('_27'), '(store-raw ! 0 refl %s)' % typed)
 c.drop('own')
-c.move('cell', 'ownN', 'others')
-c.say('elem-put ! T.the-row fullShare (at i) i r (v ∷ []) b o (inF i small) $'); c.head(3, 'rowT')
-c.say('rewrite ! 0 (λ (z : PbRecord). ‵ (row T.the-row fullShare (set (at i) i z) b o)) e refl $')
+c.say('owned ! T.the-row (Is T.the-row) ((LL.makes T.the-type T′.the-plain) 𝓤 H A) (recordAt found i) (mach i ∷ []) (LL.owes T.the-type T′.the-laws (recordAt found i) ((refl, g₁ .1), ((refl, g₂ .1), ((refl, g₃ .1), ((refl, g₄ .1), tt))))) $')
+c.c.insert(0, 'own')
+c.move('cell', 'own', 'others')
+c.say('elem-put ! T.the-row fullShare (at i) i (recordAt found i) (mach i ∷ []) b o (inF i small) $')
+c.head(3, 'rowT')
 fit = '(record { fits = next-fits i small })'
-c.set('_4', '(bin ! %s (lit ! tt) %s)' % (c.load('_4'), fit), '(tt, %s)' % fit, how='store', last=True)
-for k in range(5, 9): c.say('forget ! %d refl $' % c.at('_%d' % k))
-c.say('rewrite ! %d (λ (j : ℕ). ‵ (fat fullShare word %s 0 (vint w64 j))) (add-one i) refl $' % (c.at('_4'), l(4)))
-c.keep(*loopctx); c.say('by ! k' + ')' * close); more = c.text()
-# ---- the end
-c = Ctx(loopctx); test(c)
-c.say('rewrite ! %d (λ (t : Bool). ‵ (fat fullShare tyBool %s 0 (vbool t))) (fails (ltb n n) (λ z. lt-irrefl n (ltb→lt n n z))) refl $' % (c.at('_5'), l(5)))
-c.say('leaves-loop ! %s $ exec ! C Λ En body.t-3 (atRet En Post) $' % c.load('_5'))
+c.set('_8', '(bin ! %s (lit ! tt) %s)' % (c.load('_8'), fit), '(tt, %s)' % fit, how='store', last=True)
+for k in range(9, NL):
+    c.say('forget ! %d refl $' % c.at('_%d' % k))
+c.say('rewrite ! %d (λ (j : ℕ). ‵ (fat fullShare word %s 0 (vint w64 j))) (add-one i) refl $' % (c.at('_8'), l(8)))
+c.keep(*loop)
+c.say('by ! k' + ')' * c.open)
+more = c.text(10)
+
+# ---- after the loop
+c = Ctx(loop)
+test(c)
+c.say('rewrite ! %d (λ (t : Bool). ‵ (fat fullShare tyBool %s 0 (vbool t))) (fails (ltb n n) (λ z. lt-irrefl n (ltb→lt n n z))) refl $' % (c.at('_9'), l(9)))
+c.say('leaves-loop ! %s $ exec ! C Λ En body.t-7 (atRet En Post) $' % c.load('_9'))
 c.set('_0', '(of-opd ! (unit-lit !))', '(tt, tt)')
 c.move('rowT', 'oborT', 'obsT', 'authT')
-c.say('closes-slice ! tt T.the-row xs (at n) (length-filled n) b o $'); c.head(4, 'obsT', 'borT', 'lft')
+c.say('closes-slice ! tt T.the-row xs (at n) (length-filled n) b o $')
+c.head(4, 'obsT', 'borT', 'lft')
+for k, name, w, row, slot, _, _, _, _ in COLUMNS:
+    j = sub(k)
+    c.say('-- the elements are one array again')
+    c.move('row%d' % k)
+    c.say('feqI ! ℕ (length (found .%s)) 1024 long%s $ fjoin ! $' % (name, j))
+    c.say('use1 W (‵ (partAt (Array %s 1024) fullShare (found .%s) %s 0)) (array-whole 𝓤 H A W %s fullShare 1024 (found .%s) %s 0) $' % (row, name, l(slot), row, name, l(slot)))
+    c.bind('fpick ! (λ vs%s.' % j)
+    c.say('fsplit ! $')
+    c.head(1, '_%d' % slot, 'own')
+    c.move('own')
+    c.bind('peeks ! (Array %s 1024) (Is (Array %s 1024)) (shows 𝓤 H A (Array %s 1024)) (found .%s) vs%s (λ is%s.' % (row, row, row, name, j, j))
+    c.drop('own')
+    c.move('_%d' % slot)
+    c.say('rewrite ! 0 (λ (us : List Val). ‵ (cellAt fullShare (Array %s 1024 .mir) us %s 0)) (array-tells %s (uint-vals %s) (uint-tells %s) 1024 (found .%s) vs%s is%s) refl $' % (row, l(slot), row, w, w, name, j, j))
 c.say('returns ! %s $' % c.look('_0'))
-for k in [0, 1, 2, 3, 4, 5]: c.say('forget ! %d refl $' % c.at('_%d' % k))
-for k in range(NL):
-    c.move('_%d' % k, 'd%d' % k); c.say('free1 ! $'); c.c = c.c[2:]
-c.say('free0 ! $'); c.keep('obsT', 'borT', 'lft'); c.say('by ! exits'); ends = c.text()
+c.free(NL, range(10))
+c.keep('obsT', 'borT', 'lft')
+c.say('by ! exits' + ')' * c.open)
+ends = c.text(10)
+
 # ---- the exit
 c = Ctx(['obsT', 'borT', 'lft'])
-c.nothing('t'); c.join('lft', 't', 't1'); c.say('frame ! $'); c.c.remove('t1')
+c.nothing('t')
+c.join('lft', 't', 't')
+c.say('frame ! $')
+c.c.remove('t')
 c.fjoin('obsT', 'borT', 'ob')
-c.say('pureI ! (at-slice T.the-row (x (at n)) (s ∷ [])) (tt, (tt, tt)) (ap (λ (m : ℕ). sliceVal (b, o) m ∷ []) (sym (length-filled n)), subst (Room T.the-row) (sym (length-filled n)) roomT) $'); c.c.insert(0, 'fact')
-c.fjoin('fact', 'ob', 'ownT'); c.nothing('t'); c.fjoin('ownT', 't', 'h')
-c.say('owned ! usize (Is usize) (uint-makes 𝓤 H A W w64) n _ (refl, n-fits) $'); c.c.insert(0, 'own'); c.fjoin('own', 'h', 'h')
-c.say('owned ! F.the-row (Is F.the-row) ((LL.makes F.the-type F′.the-plain) 𝓤 H A) found (vF ∷ []) is-found $'); c.c.insert(0, 'own'); c.fjoin('own', 'h', 'h')
-c.say('feqI ! (List Val) (vunit ∷ []) (vunit ∷ []) refl $'); c.c.insert(0, 'r'); c.move('h', 'r'); c.say('done !')
-exits = c.text(ind=6)
-# ---- the walk up to the loop
+c.say('pureI ! (at-slice T.the-row (x (at n)) (s ∷ [])) (tt, (tt, tt)) (ap (λ (m : ℕ). sliceVal (b, o) m ∷ []) (sym (length-filled n)), subst (Room T.the-row) (sym (length-filled n)) room) $')
+c.c.insert(0, 'fact')
+c.fjoin('fact', 'ob', 'ownT')
+c.nothing('h')
+c.fjoin('ownT', 'h', 'h')
+for own in ['owned ! usize (Is usize) (uint-makes 𝓤 H A W w64) n _ (refl, n-fits) $', 'owned ! F.the-row (Is F.the-row) ((LL.makes F.the-type F′.the-plain) 𝓤 H A) found (vF ∷ []) is-found $']:
+    c.say(own)
+    c.c.insert(0, 'own')
+    c.fjoin('own', 'h', 'h')
+c.say('feqI ! (List Val) (vunit ∷ []) (vunit ∷ []) refl $')
+c.c.insert(0, 'res')
+c.move('h', 'res')
+c.say('done !')
+exits = c.text(6)
+
+# ---- up to the body
 ctx = []
-for k in reversed(range(NL)): ctx += ['_%d' % k, 'd%d' % k]
+for k in reversed(range(NL)):
+    ctx += ['_%d' % k, 'd%d' % k]
 c = Ctx(ctx + ['toks', 'owns'])
 c.say(''.join('alloc1 ! (λ %s. ' % l(k) for k in range(NL)) + 'alloc0 ! $ params1 ! $')
 c.say('pass1 ! (init ! %d refl (LL.lawful F.the-type F′.the-laws 𝓤 H A W .typed found _ is-found .0)) $' % c.at('_1'))
 c.say('pass1 ! (init ! %d refl (tt, record { fits = n-fits })) $' % c.at('_2'))
-c.say('pass1 ! (init ! %d refl (tt, (tt, (record { fits = roomT .0 }, tt)))) $ pass0 ! $' % c.at('_3'))
+c.say('pass1 ! (init ! %d refl (tt, (tt, (record { fits = room .0 }, tt)))) $ pass0 ! $' % c.at('_3'))
 before = list(c.c)
-c.say('by ! (first 𝓣 known %s)' % ' '.join(l(k) for k in range(NL)) + ')' * NL); walk = c.text()
+ls = ' '.join(l(k) for k in range(NL))
+c.say('by ! (first 𝓣 %s)' % ls + ')' * NL)
+walk = c.text(6)
+
+# ---- the body up to the loop
 c = Ctx(before)
-c.set('_4', '(of-opd ! (lit ! tt))', '(tt, record { fits = lit< tt })')
-c.split('toks', 'lft', 'tk'); c.fsplit('owns', 'ownF', 'ow1'); c.fsplit('ow1', 'ownN', 'ow2'); c.fsplit('ow2', 'ownT', 'ow3')
-c.fsplit('ownT', 'factT', 'ob'); c.fsplit('ob', 'obsT', 'borT'); c.move('obsT', 'borT', 'lft')
-c.say('opens-slice ! tt T.the-row xs b o $'); c.head(3, 'rowT', 'oborT', 'obsT', 'authT')
-c.keep(*loopctx); c.say('by ! loops'); first = c.text()
-# ---- types of the locals
-tys = ['tyUnit', 'F′.mir', 'word', 'records', 'word', 'tyBool', 'T′.mir', 'word', 'tyPtr']
-items = {'rowT': 'row T.the-row fullShare (at i) b o', '_0': 'froom tyUnit l₀ 0', '_1': 'fat fullShare F′.mir l₁ 0 vF', '_2': 'fat fullShare word l₂ 0 (vint w64 n)', '_3': 'fat fullShare records l₃ 0 s', '_4': 'fat fullShare word l₄ 0 (vint w64 i)',
-  'oborT': 'fobor κ q (Held T.the-row (length xs) b o γ)', 'obsT': 'fobs γ (codedHoleys T.the-row .code (heres T.the-row xs))', 'authT': 'fauth γ (codedHoleys T.the-row .code (heres T.the-row xs))'}
-for k in range(5, NL): items['_%d' % k] = 'froom %s %s 0' % (tys[k], l(k))
-for k in range(NL): items['d%d' % k] = 'fdies %s %s' % (tys[k], l(k))
-def item(n):
-    if n == 'toks': return '(‵ (flft κ q) ⊛ ‵ ftrue)'
-    if n == 'owns': return '‵ (owns (F.the-row ∷ usize ∷ MutSlice (named 0) κ T.the-row ∷ []) args vals)'
-    if n == '_4': return '‵ (froom word l₄ 0)'
-    return '‵ (%s)' % items[n]
-Before = ' ∷ '.join(item(n) for n in before) + ' ∷ []'
-At = ' ∷ '.join('‵ (%s)' % items[n] for n in loopctx) + ' ∷ []'
-En = ' ∷ '.join('(%s, %s)' % (tys[k], l(k)) for k in range(NL)) + ' ∷ []'
-out = open(here + '/fill.txt').read()
-for a, b in [('@LOCALS@', ' ∷ '.join('local %s valueLocal' % t for t in tys) + ' ∷ []'), ('@AT@', At), ('@BEFORE@', Before), ('@FIRST@', first), ('@EN@', En), ('@MORE@', more), ('@ENDS@', ends), ('@EXITS@', exits), ('@WALK@', walk), ('@LS@', ' '.join(l(k) for k in range(NL)))]: out = out.replace(a, b)
-open(here + '/../../crates/pressbadger/proofs/records/fill/Proof.antt', 'w').write(out)
+for k, name, w, row, slot, _, _, _, _ in COLUMNS:
+    c.set('_%d' % slot, '(of-opd ! %s)' % c.field('_1', k), '(array-typed %s (uint-lawful 𝓤 H A W %s .typed) 1024 (found .%s) _ is%s .0)' % (row, w, name, sub(k)))
+c.set('_8', '(of-opd ! (lit ! tt))', '(tt, record { fits = lit< tt })')
+for k, name, w, row, slot, _, _, _, _ in COLUMNS:
+    j = sub(k)
+    c.say('-- an array is its elements')
+    c.say('owned ! (Array %s 1024) (Is (Array %s 1024)) (array-makes 𝓤 H A W %s (uint-makes 𝓤 H A W %s) 1024) (found .%s) (spelt %s (found .%s) ∷ []) is%s $' % (row, row, row, w, name, w, name, j))
+    c.c.insert(0, 'own')
+    c.fjoin('_%d' % slot, 'own', 'array')
+    c.say('fpack ! (List Val) (λ vs. fsep (cellAt fullShare (Array %s 1024 .mir) vs %s 0) (Array %s 1024 .own (found .%s) vs)) (spelt %s (found .%s) ∷ []) $' % (row, l(slot), row, name, w, name))
+    c.say('use1 W (‵ (arr-parts (shares %s) 1024 .part fullShare (found .%s) %s 0)) (array-apart 𝓤 H A W %s fullShare tt 1024 (found .%s) %s 0) $' % (row, name, l(slot), row, name, l(slot)))
+    c.say('fsplit ! $')
+    c.bind('feqL ! (λ long%s.' % j)
+    c.head(1, 'row%d' % k)
+c.split('toks', 'lft', 'tk')
+c.fsplit('owns', 'ownF', 'ow')
+c.fsplit('ow', 'ownN', 'ow')
+c.fsplit('ow', 'ownT', 'ow')
+c.fsplit('ownT', 'fact', 'ob')
+c.fsplit('ob', 'obsT', 'borT')
+c.move('obsT', 'borT', 'lft')
+c.say('opens-slice ! tt T.the-row xs b o $')
+c.head(3, 'rowT', 'oborT', 'obsT', 'authT')
+c.keep(*loop)
+c.say('by ! (loops long₁ long₂ long₃ long₄)' + ')' * c.open)
+first = c.text()
+
+# ---- the contexts
+item = {'rowT': 'row T.the-row fullShare (at i) b o', '_1': 'fat fullShare F′.mir l₁ 0 vF', '_2': 'fat fullShare word l₂ 0 (vint w64 n)', '_3': 'fat fullShare recordsTy l₃ 0 s', '_8': 'fat fullShare word l₈ 0 (vint w64 i)',
+        'oborT': 'fobor κ q (Held T.the-row (length xs) b o γ)', 'obsT': 'fobs γ (codedHoleys T.the-row .code (heres T.the-row xs))', 'authT': 'fauth γ (codedHoleys T.the-row .code (heres T.the-row xs))'}
+for k, name, w, row, slot, _, _, _, _ in COLUMNS:
+    item['row%d' % k] = 'row %s fullShare (found .%s) %s 0' % (row, name, l(slot))
+for k in [0] + list(range(9, NL)):
+    item['_%d' % k] = 'froom %s %s 0' % (tys[k], l(k))
+for k in range(NL):
+    item['d%d' % k] = 'fdies %s %s' % (tys[k], l(k))
+
+
+def at_first(n):
+    if n == 'toks':
+        return '(‵ (flft κ q) ⊛ ‵ ftrue)'
+    if n == 'owns':
+        return '‵ (owns (F.the-row ∷ usize ∷ MutSlice (named 0) κ T.the-row ∷ []) args vals)'
+    k = int(n[1:])
+    return '‵ (%s)' % (item[n] if n[0] == 'd' or k in (1, 2, 3) else 'froom %s %s 0' % (tys[k], l(k)))
+
+
+def each(m):
+    return ''.join(m.group(1).replace('₌', sub(k)).replace('@NAME@', name).replace('@W@', w).replace('@ROW@', row).replace('@PATH@', ' .1' * k + ' .0') for k, name, w, row, _, _, _, _, _ in COLUMNS)
+
+
+text = open(os.path.join(os.path.dirname(os.path.abspath(__file__)), 'fill.txt')).read()
+text = re.sub(r'@EACH@\n(.*?)@END@\n', each, text, flags=re.S)
+for a, b in [('@EXITS@', exits), ('@MORE@', more), ('@ENDS@', ends), ('@WALK@', walk), ('@FIRST@', first), ('@LS@', ls),
+             ('@EN@', items('(%s, %s)' % (t, l(k)) for k, t in enumerate(tys))), ('@AT@', items('‵ (%s)' % item[n] for n in loop)),
+             ('@BEFORE@', items(at_first(n) for n in before)), ('@LOCALS@', items('local %s %s' % x for x in zip(tys, homes)))]:
+    text = text.replace(a, b)
+write('fill', text)

@@ -97,27 +97,23 @@ fn kept_in(found: Found) -> usize
     compared.kept
 }
 
-// Record `i` of what was found.
-fn record_at(found: Found, i: usize) -> PbRecord
-    requires { ⌜ i < 1024 ⌝ }
-    ensures { λ r. ⌜ r ≡ recordAt found i ⌝ }
-{
-    PbRecord {
-        left: found.lefts[i],
-        right: found.rights[i],
-        parent: found.parents[i],
-        letter: found.taken[i],
-    }
-}
-
 // Writes the first `n` records of what was found.
 fn fill(found: Found, n: usize, records: &mut [PbRecord])
     requires { ⌜ (n ≤ 1024) × (n ≤ length (now records)) ⌝ }
     ensures { λ _. ⌜ now (records .exit) ≡ filled found (now (records .entry)) n ⌝ }
 {
+    let lefts = found.lefts;
+    let rights = found.rights;
+    let parents = found.parents;
+    let taken = found.taken;
     let mut i = 0;
     while i < n {
-        records[i] = record_at(found, i);
+        records[i] = PbRecord {
+            left: lefts[i],
+            right: rights[i],
+            parent: parents[i],
+            letter: taken[i],
+        };
         i += 1;
     }
 }
