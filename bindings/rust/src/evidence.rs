@@ -1,7 +1,7 @@
 //! Checking a list of pairs that somebody else offers as evidence.
 
 use crate::exports;
-use crate::{Pattern, Refusal};
+use crate::{Pattern, Record, Refusal};
 
 /// The most pairs that evidence may have.
 pub const MAX_PAIRS: usize = 1024;
@@ -54,6 +54,30 @@ pub fn check(pattern: &Pattern<'_>, x: u64, y: u64, lefts: &[u64], rights: &[u64
             rights.len(),
         )
     };
+    answered(checked)
+}
+
+/// [`check`] of the pairs of a list of records, as a comparison leaves it. Parents and letters are
+/// not looked at.
+pub fn check_records(pattern: &Pattern<'_>, x: u64, y: u64, records: &[Record]) -> Checked {
+    // SAFETY: both slices are valid for reads of their counts, and the call only reads them.
+    let checked = unsafe {
+        exports::pb_check_records(
+            pattern.states,
+            pattern.letters,
+            pattern.finals,
+            pattern.rows.as_ptr(),
+            pattern.rows.len(),
+            x,
+            y,
+            records.as_ptr(),
+            records.len(),
+        )
+    };
+    answered(checked)
+}
+
+fn answered(checked: exports::PbChecked) -> Checked {
     match checked.answer {
         5 => Checked::Proved,
         6 => Checked::NotProved {

@@ -3,10 +3,11 @@
 //! Each function here fails if the call changed anything that it was lent and
 //! that its answer does not name as written.
 
-use crate::host;
-use crate::lent::Lent;
-use crate::probes::{self, Lists, ProbeCompared, Probed};
+use crate::host::{self, Lists, PbCompared, RecordBytes};
+use crate::lent::{Lent, Unit};
+use crate::probes::{self, Probed};
 use reference::answers::DONE;
+use reference::congruence::Pair;
 use reference::evidence::Check;
 use reference::file::{Reading, Writing};
 use reference::pattern::Pattern;
@@ -31,6 +32,24 @@ pub fn check(pattern: &Pattern, x: u64, y: u64, lefts: &[u64], rights: &[u64]) -
     rows.assert_unchanged();
     lefts.assert_unchanged();
     rights.assert_unchanged();
+    Check {
+        answer: u64::from(checked.answer),
+        place: checked.place as u64,
+    }
+}
+
+/// The answer to the pairs of a list of records. Parents and letters are sentinels.
+pub fn check_records(question: &Question, pairs: &[Pair]) -> Check {
+    let rows = Lent::holding(&question.pattern.rows);
+    let bytes = |(place, (left, right)): (usize, &Pair)| {
+        let [_, _, rest] = RecordBytes::sentinel(place);
+        [*left, *right, rest]
+    };
+    let records: Vec<RecordBytes> = pairs.iter().enumerate().map(bytes).collect();
+    let records = Lent::holding(&records);
+    let checked = host::check_records(question, rows.get(), records.get());
+    rows.assert_unchanged();
+    records.assert_unchanged();
     Check {
         answer: u64::from(checked.answer),
         place: checked.place as u64,
@@ -156,71 +175,101 @@ pub fn write_number(length: usize, at: usize, value: u64) -> Result<Vec<u8>, u64
     }
 }
 
-/// How long what is lent to a comparison is: four lists for the records, and the sequence.
+/// What a comparison gives with the records and the sequence bytes that it wrote. All numbers are
+/// taken over as they come, on a refusal too.
+fn comparison(found: PbCompared, records: Vec<Record>, sequence: &Lent<u8>) -> Comparison {
+    Comparison {
+        answer: u64::from(found.answer),
+        kept: found.kept as u64,
+        examined: found.examined as u64,
+        length: found.length as u64,
+        records,
+        sequence: sequence.written(0..found.length).to_vec(),
+    }
+}
+
+/// The fields of a record, from its bytes.
+fn record([left, right, rest]: RecordBytes) -> Record {
+    Record {
+        left,
+        right,
+        parent: rest & 0xffff,
+        letter: rest >> 16 & 0xff,
+    }
+}
+
+/// How long the records and the sequence lent to a comparison are.
 #[derive(Clone, Copy, Debug, PartialEq, Eq)]
 pub struct Lengths {
-    /// The lists for left sets, right sets, parents and letters.
-    pub lists: [usize; 4],
+    /// The records.
+    pub records: usize,
     /// The sequence bytes.
     pub sequence: usize,
 }
 
-impl Lengths {
-    /// All of one length.
-    pub fn all(length: usize) -> Lengths {
-        Lengths {
-            lists: [length; 4],
-            sequence: length,
-        }
-    }
-}
-
-/// What a comparison in a room gives, with lists of the given lengths. All numbers are taken over
-/// as they come, on a refusal too.
+/// What a comparison in a room gives.
 pub fn compare(question: &Question, room: u64, lengths: Lengths) -> Comparison {
-    let call = |rows: &[u64], lists: Lists| probes::compare(question, rows, room as usize, lists);
-    compared(&question.pattern, lengths, call)
+    compared(question, lengths, |rows, records, sequence| {
+        host::compare(question, rows, room as usize, records, sequence)
+    })
 }
 
 /// What the comparison's short form gives.
 pub fn compare_default(question: &Question, lengths: Lengths) -> Comparison {
-    let call = |rows: &[u64], lists: Lists| probes::compare_default(question, rows, lists);
-    compared(&question.pattern, lengths, call)
+    compared(question, lengths, |rows, records, sequence| {
+        host::compare_default(question, rows, records, sequence)
+    })
 }
 
 fn compared(
-    pattern: &Pattern,
+    question: &Question,
     lengths: Lengths,
-    call: impl FnOnce(&[u64], Lists) -> ProbeCompared,
+    call: impl FnOnce(&[u64], &mut [RecordBytes], &mut [u8]) -> PbCompared,
 ) -> Comparison {
-    let rows = Lent::holding(&pattern.rows);
-    let [lefts, rights, parents, taken] = lengths.lists;
+    let rows = Lent::holding(&question.pattern.rows);
+    let mut records = Lent::blank(lengths.records);
+    let mut sequence = Lent::blank(lengths.sequence);
+    let found = call(rows.get(), records.get_mut(), sequence.get_mut());
+    rows.assert_unchanged();
+    let kept = records.written(0..found.kept);
+    comparison(found, kept.iter().copied().map(record).collect(), &sequence)
+}
+
+/// What a comparison in a room gives, with lists for left sets, right sets, parents and letters of
+/// the given lengths.
+pub fn compare_lists(
+    question: &Question,
+    room: u64,
+    lists: [usize; 4],
+    sequence: usize,
+) -> Comparison {
+    let rows = Lent::holding(&question.pattern.rows);
+    let [lefts, rights, parents, taken] = lists;
     let (mut lefts, mut rights) = (Lent::blank(lefts), Lent::blank(rights));
     let (mut parents, mut taken) = (Lent::blank(parents), Lent::blank(taken));
-    let mut sequence = Lent::blank(lengths.sequence);
+    let mut sequence = Lent::blank(sequence);
     let lists = Lists {
         lefts: lefts.get_mut(),
         rights: rights.get_mut(),
         parents: parents.get_mut(),
         taken: taken.get_mut(),
-        sequence: sequence.get_mut(),
     };
-    let found = call(rows.get(), lists);
+    let found = host::compare_lists(
+        question,
+        rows.get(),
+        room as usize,
+        lists,
+        sequence.get_mut(),
+    );
     rows.assert_unchanged();
-    let (lefts, rights) = (lefts.written(0..found.kept), rights.written(0..found.kept));
-    let (parents, taken) = (parents.written(0..found.kept), taken.written(0..found.kept));
+    let kept = 0..found.kept;
+    let (lefts, rights) = (lefts.written(kept.clone()), rights.written(kept.clone()));
+    let (parents, taken) = (parents.written(kept.clone()), taken.written(kept.clone()));
     let record = |number: usize| Record {
         left: lefts[number],
         right: rights[number],
         parent: u64::from(parents[number]),
         letter: u64::from(taken[number]),
     };
-    Comparison {
-        answer: u64::from(found.answer),
-        kept: found.kept as u64,
-        examined: found.examined as u64,
-        length: found.length as u64,
-        records: (0..found.kept).map(record).collect(),
-        sequence: sequence.written(0..found.length).to_vec(),
-    }
+    comparison(found, kept.map(record).collect(), &sequence)
 }

@@ -1,6 +1,24 @@
 //! The exports that hosts call, with the numbers that a C host sees.
 
 use reference::pattern::Pattern;
+use reference::questions::Question;
+
+/// A record as it is lent: all its 24 bytes, those that no field has among them.
+pub type RecordBytes = [u64; 3];
+
+/// The answer to a comparison.
+#[repr(C)]
+#[derive(Clone, Copy, Debug, PartialEq, Eq)]
+pub struct PbCompared {
+    /// SAME, DIFFERENT, FULL or a refusal; all else is 0 on a refusal.
+    pub answer: u8,
+    /// The number of records kept.
+    pub kept: usize,
+    /// The number of candidates dealt with.
+    pub examined: usize,
+    /// The number of sequence bytes.
+    pub length: usize,
+}
 
 /// The answer to `pb_judge`.
 #[repr(C)]
@@ -53,9 +71,68 @@ pub struct PbWritten {
 mod exports {
     //! As `crates/pressbadger/src` declares them. A lent slice goes over as a pointer and a count.
 
-    use super::{PbChecked, PbJudged, PbPattern, PbWritten};
+    use super::{PbChecked, PbCompared, PbJudged, PbPattern, PbWritten, RecordBytes};
 
     extern "C" {
+        pub fn pb_version() -> u32;
+        pub fn pb_compare(
+            states: usize,
+            letters: usize,
+            finals: u64,
+            rows: *const u64,
+            rows_count: usize,
+            x: u64,
+            y: u64,
+            room: usize,
+            records: *mut RecordBytes,
+            records_count: usize,
+            sequence: *mut u8,
+            sequence_count: usize,
+        ) -> PbCompared;
+        pub fn pb_compare_default(
+            states: usize,
+            letters: usize,
+            finals: u64,
+            rows: *const u64,
+            rows_count: usize,
+            x: u64,
+            y: u64,
+            records: *mut RecordBytes,
+            records_count: usize,
+            sequence: *mut u8,
+            sequence_count: usize,
+        ) -> PbCompared;
+        pub fn pb_compare_lists(
+            states: usize,
+            letters: usize,
+            finals: u64,
+            rows: *const u64,
+            rows_count: usize,
+            x: u64,
+            y: u64,
+            room: usize,
+            lefts: *mut u64,
+            lefts_count: usize,
+            rights: *mut u64,
+            rights_count: usize,
+            parents: *mut u16,
+            parents_count: usize,
+            taken: *mut u8,
+            taken_count: usize,
+            sequence: *mut u8,
+            sequence_count: usize,
+        ) -> PbCompared;
+        pub fn pb_check_records(
+            states: usize,
+            letters: usize,
+            finals: u64,
+            rows: *const u64,
+            rows_count: usize,
+            x: u64,
+            y: u64,
+            records: *const RecordBytes,
+            records_count: usize,
+        ) -> PbChecked;
         pub fn pb_judge(
             states: usize,
             letters: usize,
@@ -102,6 +179,136 @@ mod exports {
 /// The sizes of a pattern as a host hands them over.
 fn sizes(pattern: &Pattern) -> (usize, usize) {
     (pattern.states as usize, pattern.letters as usize)
+}
+
+/// The version of the interface.
+pub fn version() -> u32 {
+    // SAFETY: nothing is lent.
+    unsafe { exports::pb_version() }
+}
+
+/// Compares two sets in a room; the pattern's rows are those lent.
+pub fn compare(
+    question: &Question,
+    rows: &[u64],
+    room: usize,
+    records: &mut [RecordBytes],
+    sequence: &mut [u8],
+) -> PbCompared {
+    let Question { pattern, x, y } = question;
+    let (states, letters) = sizes(pattern);
+    // SAFETY: the rows are valid for reads, the others for writes of their counts, and a record has
+    // the size and the alignment of its bytes.
+    unsafe {
+        exports::pb_compare(
+            states,
+            letters,
+            pattern.finals,
+            rows.as_ptr(),
+            rows.len(),
+            *x,
+            *y,
+            room,
+            records.as_mut_ptr(),
+            records.len(),
+            sequence.as_mut_ptr(),
+            sequence.len(),
+        )
+    }
+}
+
+/// Compares two sets in the default room; the pattern's rows are those lent.
+pub fn compare_default(
+    question: &Question,
+    rows: &[u64],
+    records: &mut [RecordBytes],
+    sequence: &mut [u8],
+) -> PbCompared {
+    let Question { pattern, x, y } = question;
+    let (states, letters) = sizes(pattern);
+    // SAFETY: as for `compare`.
+    unsafe {
+        exports::pb_compare_default(
+            states,
+            letters,
+            pattern.finals,
+            rows.as_ptr(),
+            rows.len(),
+            *x,
+            *y,
+            records.as_mut_ptr(),
+            records.len(),
+            sequence.as_mut_ptr(),
+            sequence.len(),
+        )
+    }
+}
+
+/// Four lists lent for the records, column by column.
+pub struct Lists<'a> {
+    /// For the left sets.
+    pub lefts: &'a mut [u64],
+    /// For the right sets.
+    pub rights: &'a mut [u64],
+    /// For the parents.
+    pub parents: &'a mut [u16],
+    /// For the letters taken.
+    pub taken: &'a mut [u8],
+}
+
+/// Compares two sets in a room, with records column by column; the pattern's rows are those lent.
+pub fn compare_lists(
+    question: &Question,
+    rows: &[u64],
+    room: usize,
+    lists: Lists,
+    sequence: &mut [u8],
+) -> PbCompared {
+    let Question { pattern, x, y } = question;
+    let (states, letters) = sizes(pattern);
+    // SAFETY: the rows are valid for reads and the others for writes of their counts.
+    unsafe {
+        exports::pb_compare_lists(
+            states,
+            letters,
+            pattern.finals,
+            rows.as_ptr(),
+            rows.len(),
+            *x,
+            *y,
+            room,
+            lists.lefts.as_mut_ptr(),
+            lists.lefts.len(),
+            lists.rights.as_mut_ptr(),
+            lists.rights.len(),
+            lists.parents.as_mut_ptr(),
+            lists.parents.len(),
+            lists.taken.as_mut_ptr(),
+            lists.taken.len(),
+            sequence.as_mut_ptr(),
+            sequence.len(),
+        )
+    }
+}
+
+/// Checks the pairs of a list of records; the pattern's rows are those lent.
+pub fn check_records(question: &Question, rows: &[u64], records: &[RecordBytes]) -> PbChecked {
+    let Question { pattern, x, y } = question;
+    let (states, letters) = sizes(pattern);
+    // SAFETY: both slices are valid for reads of their counts, and the call only reads them.
+    unsafe {
+        exports::pb_check_records(
+            states,
+            letters,
+            pattern.finals,
+            rows.as_ptr(),
+            rows.len(),
+            *x,
+            *y,
+            records.as_ptr(),
+            records.len(),
+        )
+    }
 }
 
 /// Judges one sequence; the pattern's rows are those lent.

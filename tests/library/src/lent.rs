@@ -1,5 +1,6 @@
 //! Memory to lend: a slice in the middle of a larger one that is full of sentinels.
 
+use crate::host::RecordBytes;
 use std::fmt::Debug;
 use std::hint::black_box;
 use std::ops::Range;
@@ -36,6 +37,12 @@ impl Unit for u8 {
     fn sentinel(place: usize) -> u8 {
         // No letter is so large.
         0x80 | (mixed(place) >> 56) as u8
+    }
+}
+
+impl Unit for RecordBytes {
+    fn sentinel(place: usize) -> RecordBytes {
+        [0, 1, 2].map(|word| mixed(3 * place + word))
     }
 }
 

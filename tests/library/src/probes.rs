@@ -1,7 +1,5 @@
 //! The exports that only tests call, made safe to call.
 
-use reference::questions::Question;
-
 /// What most probes return.
 #[repr(C)]
 #[derive(Clone, Copy, Debug, PartialEq, Eq)]
@@ -24,24 +22,10 @@ pub struct ProbedNumber {
     pub place: usize,
 }
 
-/// What a comparison on number slices returns.
-#[repr(C)]
-#[derive(Clone, Copy, Debug, PartialEq, Eq)]
-pub struct ProbeCompared {
-    /// SAME, DIFFERENT, FULL or a refusal; all else is 0 on a refusal.
-    pub answer: u8,
-    /// The number of records kept.
-    pub kept: usize,
-    /// The number of candidates dealt with.
-    pub examined: usize,
-    /// The number of sequence bytes.
-    pub length: usize,
-}
-
 mod exports {
     //! As `crates/probes/src` declares them. A lent slice goes over as a pointer and a count.
 
-    use super::{ProbeCompared, Probed, ProbedNumber};
+    use super::{Probed, ProbedNumber};
 
     extern "C" {
         pub fn probe_union(a: u64, b: u64) -> u64;
@@ -80,45 +64,6 @@ mod exports {
         ) -> Probed;
         pub fn probe_read_number(bytes: *const u8, bytes_count: usize, at: usize) -> ProbedNumber;
         pub fn probe_write_number(out: *mut u8, out_count: usize, at: usize, value: u64) -> Probed;
-        pub fn probe_compare(
-            states: usize,
-            letters: usize,
-            finals: u64,
-            rows: *const u64,
-            rows_count: usize,
-            x: u64,
-            y: u64,
-            room: usize,
-            lefts: *mut u64,
-            lefts_count: usize,
-            rights: *mut u64,
-            rights_count: usize,
-            parents: *mut u16,
-            parents_count: usize,
-            taken: *mut u8,
-            taken_count: usize,
-            sequence: *mut u8,
-            sequence_count: usize,
-        ) -> ProbeCompared;
-        pub fn probe_compare_default(
-            states: usize,
-            letters: usize,
-            finals: u64,
-            rows: *const u64,
-            rows_count: usize,
-            x: u64,
-            y: u64,
-            lefts: *mut u64,
-            lefts_count: usize,
-            rights: *mut u64,
-            rights_count: usize,
-            parents: *mut u16,
-            parents_count: usize,
-            taken: *mut u8,
-            taken_count: usize,
-            sequence: *mut u8,
-            sequence_count: usize,
-        ) -> ProbeCompared;
     }
 }
 
@@ -198,75 +143,4 @@ pub fn read_number(bytes: &[u8], at: usize) -> ProbedNumber {
 pub fn write_number(bytes: &mut [u8], at: usize, value: u64) -> Probed {
     // SAFETY: the bytes are valid for writes of their count.
     unsafe { exports::probe_write_number(bytes.as_mut_ptr(), bytes.len(), at, value) }
-}
-
-/// The slices lent to a comparison.
-pub struct Lists<'a> {
-    /// For the left sets of the records.
-    pub lefts: &'a mut [u64],
-    /// For their right sets.
-    pub rights: &'a mut [u64],
-    /// For their parents.
-    pub parents: &'a mut [u16],
-    /// For the letters taken.
-    pub taken: &'a mut [u8],
-    /// For the letters from the start to the candidate that differs.
-    pub sequence: &'a mut [u8],
-}
-
-/// The comparison in a room; the pattern's rows are those lent.
-pub fn compare(question: &Question, rows: &[u64], room: usize, lists: Lists) -> ProbeCompared {
-    let Question { pattern, x, y } = question;
-    // SAFETY: the rows are valid for reads and the lists for writes of their counts, and slices
-    // that are lent for writing do not overlap.
-    unsafe {
-        exports::probe_compare(
-            pattern.states as usize,
-            pattern.letters as usize,
-            pattern.finals,
-            rows.as_ptr(),
-            rows.len(),
-            *x,
-            *y,
-            room,
-            lists.lefts.as_mut_ptr(),
-            lists.lefts.len(),
-            lists.rights.as_mut_ptr(),
-            lists.rights.len(),
-            lists.parents.as_mut_ptr(),
-            lists.parents.len(),
-            lists.taken.as_mut_ptr(),
-            lists.taken.len(),
-            lists.sequence.as_mut_ptr(),
-            lists.sequence.len(),
-        )
-    }
-}
-
-/// The comparison's short form; the pattern's rows are those lent.
-pub fn compare_default(question: &Question, rows: &[u64], lists: Lists) -> ProbeCompared {
-    let Question { pattern, x, y } = question;
-    // SAFETY: the rows are valid for reads and the lists for writes of their counts, and slices
-    // that are lent for writing do not overlap.
-    unsafe {
-        exports::probe_compare_default(
-            pattern.states as usize,
-            pattern.letters as usize,
-            pattern.finals,
-            rows.as_ptr(),
-            rows.len(),
-            *x,
-            *y,
-            lists.lefts.as_mut_ptr(),
-            lists.lefts.len(),
-            lists.rights.as_mut_ptr(),
-            lists.rights.len(),
-            lists.parents.as_mut_ptr(),
-            lists.parents.len(),
-            lists.taken.as_mut_ptr(),
-            lists.taken.len(),
-            lists.sequence.as_mut_ptr(),
-            lists.sequence.len(),
-        )
-    }
 }

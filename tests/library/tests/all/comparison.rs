@@ -9,21 +9,44 @@ use reference::questions::{figure_five, renamed_copy, switches, Question};
 use reference::random::Random;
 use reference::walk::{compare, compare_default, Comparison, Record, MAX_ROOM};
 
-/// The library's comparison, which is the reference's.
+/// The library's comparison, which is the reference's, with records and column by column.
 pub fn assert_compared(question: &Question, room: u64, lengths: Lengths) -> Comparison {
     let Question { pattern, x, y } = question;
+    let Lengths { records, sequence } = lengths;
+    let wanted = compare(pattern, *x, *y, room, &[records as u64], sequence as u64);
     let found = calls::compare(question, room, lengths);
-    let lists = lengths.lists.map(|length| length as u64);
-    let wanted = compare(pattern, *x, *y, room, &lists, lengths.sequence as u64);
     assert_eq!(found, wanted, "room {room}, {lengths:?}, {question:?}");
+    assert_lists(question, room, [records; 4], sequence);
     found
 }
 
-/// The comparison with lists exactly as long as the room; none longer than need be
-/// for a room that is refused.
+/// The library's comparison with four lists, which is the reference's.
+pub fn assert_lists(
+    question: &Question,
+    room: u64,
+    lists: [usize; 4],
+    sequence: usize,
+) -> Comparison {
+    let Question { pattern, x, y } = question;
+    let lengths = lists.map(|length| length as u64);
+    let wanted = compare(pattern, *x, *y, room, &lengths, sequence as u64);
+    let found = calls::compare_lists(question, room, lists, sequence);
+    assert_eq!(found, wanted, "room {room}, {lists:?}, {question:?}");
+    found
+}
+
+/// Records and a sequence of one length.
+pub fn both(length: usize) -> Lengths {
+    Lengths {
+        records: length,
+        sequence: length,
+    }
+}
+
+/// The comparison with records and sequence exactly as long as the room, or long
+/// enough for a room that is refused.
 pub fn compared(question: &Question, room: u64) -> Comparison {
-    let length = room.min(MAX_ROOM + 1) as usize;
-    assert_compared(question, room, Lengths::all(length))
+    assert_compared(question, room, both(room.min(MAX_ROOM + 1) as usize))
 }
 
 /// Catches what the file says of each case: 'Errors that look right', and the readings.
@@ -201,13 +224,13 @@ fn what_is_lent_may_be_longer_than_the_room() {
     for _ in 0..rounds(4000) {
         let question = small_question(&mut random);
         let room = random.below(12);
+        let exact = compared(&question, room);
         let mut length = || (room + random.below(9)) as usize;
-        let lengths = Lengths {
-            lists: [length(), length(), length(), length()],
-            sequence: length(),
-        };
-        let found = assert_compared(&question, room, lengths);
-        assert_eq!(found, compared(&question, room));
+        let (records, sequence) = (length(), length());
+        let found = assert_compared(&question, room, Lengths { records, sequence });
+        assert_eq!(found, exact);
+        let lists = [length(), length(), length(), length()];
+        assert_eq!(assert_lists(&question, room, lists, sequence), exact);
     }
 }
 
@@ -221,7 +244,7 @@ fn room_0_needs_nothing_lent() {
             x: masks[4],
             y: masks[5],
         };
-        let found = assert_compared(&question, 0, Lengths::all(0));
+        let found = assert_compared(&question, 0, both(0));
         let numbers = [found.kept, found.examined, found.length];
         assert_eq!(numbers, [0, 1, 0], "{question:?}");
         counts[found.answer as usize] += 1;
@@ -229,36 +252,22 @@ fn room_0_needs_nothing_lent() {
     assert!(counts.iter().all(|count| *count > 1000), "{counts:?}");
 }
 
-/// Catches a short form with another room than 1024, or one that judges no lists.
+/// Catches a short form with another room than 1024, or one that judges nothing that is lent.
 #[test]
 fn the_short_form_takes_room_1024() {
-    let questions = [
-        figure_five(7),
-        switches(4),
-        switches(10),
-        switches(11),
-        long_way(),
-    ];
-    for question in questions {
+    let table = [0, 1, 256, 1023, 1024, 1025, 2000];
+    for question in [figure_five(7), switches(10), switches(11), long_way()] {
         let Question { pattern, x, y } = &question;
-        for length in [0, 1, 256, 1023, 1024, 1025, 2000] {
-            let mut lengths = vec![Lengths::all(length)];
-            for list in 0..4 {
-                let mut other = Lengths::all(1024);
-                other.lists[list] = length;
-                lengths.push(other);
-            }
-            let sequence = length;
-            lengths.push(Lengths {
-                sequence,
-                ..Lengths::all(1024)
-            });
-            for lengths in lengths {
-                let found = calls::compare_default(&question, lengths);
-                let lists = lengths.lists.map(|length| length as u64);
-                let wanted = compare_default(pattern, *x, *y, &lists, lengths.sequence as u64);
-                assert_eq!(found, wanted, "{lengths:?}");
-                assert_eq!(found.answer == BAD_ROOM, length < 1024);
+        for records in table {
+            for sequence in table {
+                let found = calls::compare_default(&question, Lengths { records, sequence });
+                let refused = records.min(sequence) < 1024;
+                assert_eq!(found.answer == BAD_ROOM, refused, "{records} {sequence}");
+                if refused || records == sequence {
+                    let (records, sequence) = (records as u64, sequence as u64);
+                    let wanted = compare_default(pattern, *x, *y, &[records], sequence);
+                    assert_eq!(found, wanted, "{records} {sequence}");
+                }
             }
         }
     }

@@ -12,12 +12,18 @@ use reference::random::Random;
 use reference::subsets::{equivalence, Verdict};
 use reference::walk::{compare, Comparison};
 
-/// The library's answer, which is the reference's.
+/// The library's answer, which is the reference's; where the sides are of one length,
+/// it is that to a list of records too.
 fn assert_checked(question: &Question, lefts: &[u64], rights: &[u64]) -> Check {
     let Question { pattern, x, y } = question;
     let found = calls::check(pattern, *x, *y, lefts, rights);
     let wanted = check(pattern, *x, *y, lefts, rights);
     assert_eq!(found, wanted, "{question:?} {lefts:?} {rights:?}");
+    if lefts.len() == rights.len() {
+        let pairs: Vec<Pair> = lefts.iter().copied().zip(rights.iter().copied()).collect();
+        let found = calls::check_records(question, &pairs);
+        assert_eq!(found, wanted, "{question:?} {pairs:?}");
+    }
     found
 }
 

@@ -1,6 +1,6 @@
 //! What the room does to an answer, and every refusal of the comparison.
 
-use crate::comparison::{assert_compared, compared};
+use crate::comparison::{assert_compared, assert_lists, both, compared};
 use crate::draw::{blank, pattern, small_question, EDGES};
 use library::calls::Lengths;
 use library::faults::{assert_refused_in_order, beyond, of_pattern, Fault};
@@ -56,12 +56,31 @@ fn a_room_one_less_than_the_sets_reached_is_never_full() {
     assert!(exact > 300, "{exact}");
 }
 
-/// A call of the comparison.
+/// A call of the comparison: the lengths are those of four lists and of the sequence.
 #[derive(Clone, Debug)]
 struct Call {
     question: Question,
     room: u64,
-    lengths: Lengths,
+    lists: [usize; 4],
+    sequence: usize,
+}
+
+/// The answer, by the call with records too where the lists are of one length.
+fn answer(call: &Call) -> u64 {
+    let [records, others @ ..] = call.lists;
+    let found = assert_lists(&call.question, call.room, call.lists, call.sequence);
+    if others == [records; 3] {
+        let sequence = call.sequence;
+        assert_compared(&call.question, call.room, Lengths { records, sequence });
+    }
+    let numbers = [found.kept, found.examined, found.length];
+    assert!(found.answer < 10 || numbers == [0; 3], "{call:?}");
+    found.answer
+}
+
+/// One less than the room, or than a length that is long enough for any room.
+fn one_short(call: &Call) -> usize {
+    call.room.min(2000) as usize - 1
 }
 
 /// The faults of a room and of what is lent.
@@ -69,25 +88,27 @@ fn faults_of_room() -> Vec<Fault<Call>> {
     let mut faults = vec![
         Fault::new("room 1025", BAD_ROOM, |call: &mut Call| {
             call.room = MAX_ROOM + 1;
-            call.lengths = Lengths::all(2000);
+            call.lists = [2000; 4];
+            call.sequence = 2000;
         }),
         Fault::new("room 2^64-1", BAD_ROOM, |call: &mut Call| {
             call.room = u64::MAX;
         }),
         Fault::new("sequence one short", BAD_ROOM, |call: &mut Call| {
-            call.lengths.sequence = call.room.min(2000) as usize - 1;
+            call.sequence = one_short(call);
         }),
-        Fault::new("no sequence", BAD_ROOM, |call: &mut Call| {
-            call.lengths.sequence = 0;
+        Fault::new("records one short", BAD_ROOM, |call: &mut Call| {
+            call.lists = [one_short(call); 4];
         }),
         Fault::new("nothing lent", BAD_ROOM, |call: &mut Call| {
-            call.lengths = Lengths::all(0);
+            call.lists = [0; 4];
+            call.sequence = 0;
         }),
     ];
     let lists = ["lefts", "rights", "parents", "letters"];
     faults.extend(lists.into_iter().enumerate().map(|(list, name)| {
         Fault::new(name, BAD_ROOM, move |call: &mut Call| {
-            call.lengths.lists[list] = call.room.min(2000) as usize - 1;
+            call.lists[list] = one_short(call);
         })
     }));
     faults
@@ -120,18 +141,13 @@ fn every_fault_of_a_comparison_is_refused_in_order() {
             x: 1,
             y: 2,
         };
-        let lengths = Lengths::all(room as usize);
         let right = Call {
             question,
             room,
-            lengths,
+            lists: [room as usize; 4],
+            sequence: room as usize,
         };
-        assert_refused_in_order(&right, &faults, &order, |call| {
-            let found = assert_compared(&call.question, call.room, call.lengths);
-            let numbers = [found.kept, found.examined, found.length];
-            assert!(found.answer < 10 || numbers == [0; 3], "{call:?}");
-            found.answer
-        });
+        assert_refused_in_order(&right, &faults, &order, answer);
     }
 }
 
@@ -149,7 +165,7 @@ fn lists_are_judged_by_the_room_asked_for() {
                 true => SAME,
                 false => BAD_ROOM,
             };
-            let found = assert_compared(&question, room, Lengths::all(length as usize));
+            let found = assert_compared(&question, room, both(length as usize));
             assert_eq!(found.answer, wanted, "{room} {length}");
         }
     }
@@ -174,7 +190,7 @@ fn n_and_k_and_the_room_may_be_any_number_of_64_bits() {
                     y: 1,
                 };
                 for room in EDGES {
-                    assert_compared(&question, room, Lengths::all(3));
+                    assert_compared(&question, room, both(3));
                 }
             }
         }
