@@ -21,3 +21,8 @@ pub mod rounds;
 #[cfg(doctest)]
 #[doc = include_str!("../../../bindings/rust/README.md")]
 pub struct Readme;
+
+/// The project's page: its Rust is run with these tests.
+#[cfg(doctest)]
+#[doc = include_str!("../../../README.md")]
+pub struct ProjectReadme;
