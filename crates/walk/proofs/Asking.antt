@@ -1,5 +1,6 @@
--- Nothing is against a call exactly where the question is proper and the room is there; what is against it is 10 or more. Assumes nothing.
-use mathlib.Core.Path.{_≡_}
+-- The tests of a comparison: their order, that nothing is against a call exactly where the question is proper and the room is there, and that
+-- what is against it is 10 or more. Assumes nothing.
+use mathlib.Core.Path.{_≡_, _∙_}
 use mathlib.Core.Logic.{_↔_}
 use mathlib.Core.Bool.{Bool, true, false}
 use mathlib.Core.List.{List, [], _∷_, map}
@@ -10,11 +11,42 @@ use borrow.Author.Tests.{leb-true, le-leb}
 use Rattle.verdict.specs.declared.Verdict.{Verdict}
 use Rattle.verdict.specs.declared.Verdict.the-variants.{Fine, Against}
 use Rattle.verdict.specs.Tests.{need, inOrder, each}
-use Rattle.verdict.proofs.Ordered.{need-holds, need-fine, order-fine}
+use Rattle.verdict.proofs.Ordered.{need-holds, need-fine, order-fine, order-stop, order-next, order-last}
 use Rattle.pattern.specs.Tests.{sizeTest, tableTest, setTest, shapeTest, masksTest}
 use Rattle.pattern.proofs.Validity.{set-fine, shape-fine, masks-fine}
 use Rattle.walk.specs.Answers.{Lent, Call, roomTest, compareTest}
 use Rattle.walk.specs.Meaning.{Proper, Roomy}
+
+-- ---- the order: 10 and 11, then 13, then 12
+
+module _ (c : Call) where
+  pub shape-decides : {number : ℕ} → shapeTest (c .question .pattern) ≡ Against number → compareTest c ≡ shapeTest (c .question .pattern)
+  unfolding compareTest
+  shape-decides e = order-stop _ _ e
+
+  pub room-decides : {number : ℕ} → shapeTest (c .question .pattern) ≡ Fine → roomTest (c .room) (c .lent) ≡ Against number
+      → compareTest c ≡ roomTest (c .room) (c .lent)
+  unfolding compareTest
+  room-decides shape e = order-next _ _ shape ∙ order-stop _ _ e
+
+  pub masks-decide : {number : ℕ} → shapeTest (c .question .pattern) ≡ Fine → roomTest (c .room) (c .lent) ≡ Fine
+      → masksTest (c .question .pattern) ≡ Against number → compareTest c ≡ masksTest (c .question .pattern)
+  unfolding compareTest
+  masks-decide shape room e = order-next _ _ shape ∙ order-next _ _ room ∙ order-stop _ _ e
+
+  pub left-decides : {number : ℕ} → shapeTest (c .question .pattern) ≡ Fine → roomTest (c .room) (c .lent) ≡ Fine → masksTest (c .question .pattern) ≡ Fine
+      → setTest (c .question .pattern .states) (c .question .left) ≡ Against number
+      → compareTest c ≡ setTest (c .question .pattern .states) (c .question .left)
+  unfolding compareTest
+  left-decides shape room masks e = order-next _ _ shape ∙ order-next _ _ room ∙ order-next _ _ masks ∙ order-stop _ _ e
+
+  pub right-decides : shapeTest (c .question .pattern) ≡ Fine → roomTest (c .room) (c .lent) ≡ Fine → masksTest (c .question .pattern) ≡ Fine
+      → setTest (c .question .pattern .states) (c .question .left) ≡ Fine
+      → compareTest c ≡ setTest (c .question .pattern .states) (c .question .right)
+  unfolding compareTest
+  right-decides shape room masks left = order-next _ _ shape ∙ order-next _ _ room ∙ order-next _ _ masks ∙ order-next _ _ left ∙ order-last _
+
+-- ---- nothing is against a call
 
 bound-fine : (room most : ℕ) → (need (leb room most) 13 ≡ Fine) ↔ (room ≤ most)
 bound-fine room most = (λ e. leb-true _ _ (need-fine _ 13 e), λ h. need-holds _ 13 (le-leb _ _ h))

@@ -4,9 +4,9 @@
 --   Counted         the counts of an outcome, as document 01 has them
 --   Tells           a sequence that is accepted from exactly one of the two sets
 --   Covers          a list that has every set reached from either start
---   Honest          what an answer of 0, 1 or 2 means
+--   Honest          what an answer of 0, 1 or 2 means (demand 2)
 --   Quiet           what a refusal leaves: every number 0, all that is lent as it was
---   SameWritten           two calls wrote the same records and the same sequence
+--   SameWritten     two calls wrote the same records and the same sequence
 use mathlib.Core.Path.{_≡_}
 use mathlib.Core.List.{List, List·Memᴰ}
 use Prim.Native.Nat.{ℕ, _+_, _*_, _≤_}
@@ -54,6 +54,7 @@ pub record Covers (Q : Question) (sets : List ℕ) : Type 0 where
   pub from-left : (w : List ℕ) → Over (Q .pattern .letters) w → List·Memᴰ (reach (Q .pattern) (Q .left) w) sets
   pub from-right : (w : List ℕ) → Over (Q .pattern .letters) w → List·Memᴰ (reach (Q .pattern) (Q .right) w) sets
 
+-- 0 SAME, 1 DIFFERENT, 2 FULL
 pub record Honest (c : Call) (a : Answer) (later : Lent) : Type 0 where
   pub same : numberOf a ≡ 0 → SameLanguage (c .question .pattern) (c .question .left) (c .question .right)
   pub different : numberOf a ≡ 1 → Tells (c .question) (take (valuesOf a .length) (later .sequence))
@@ -69,7 +70,7 @@ pub record Quiet (c : Call) (a : Answer) (later : Lent) : Type 0 where
   pub length : valuesOf a .length ≡ 0
   pub unchanged : later ≡ c .lent
 
--- kept records and a sequence of the length
+-- so many records, and a sequence of the length
 pub record SameWritten (kept length : ℕ) (l m : Lent) : Type 0 where
   pub lefts : take kept (l .lefts) ≡ take kept (m .lefts)
   pub rights : take kept (l .rights) ≡ take kept (m .rights)

@@ -1,11 +1,10 @@
 -- `walk::compare_test` makes its five tests in order.
 use mathlib.Core.Path.{_≡_, sym, _∙_}
-use mathlib.Core.List.{[], _∷_}
 use borrow.Author.Needs.{needs}
-use Rattle.verdict.specs.Tests.{inOrder}
-use Rattle.verdict.proofs.Ordered.{order-stop, order-next, order-last}
-use Rattle.pattern.specs.Tests.{setTest, masksTest}
-use Rattle.walk.specs.Answers.{Call, lentOf, callOf, roomTest, compareTest}
+use Rattle.verdict.specs.declared.Verdict.the-variants.{Fine}
+use Rattle.pattern.specs.Tests.{setTest, shapeTest, masksTest}
+use Rattle.walk.specs.Answers.{Call, lentOf, callOf, roomTest}
+use Rattle.walk.proofs.Asking.{shape-decides, room-decides, masks-decide, left-decides, right-decides}
 use Rattle.walk.proofs.compare_test.Statement.{statement}
 use Rattle.walk.proofs.compare_test.Tie as tie
 
@@ -23,16 +22,25 @@ shaped c = entered (c .before .before)
 abbrev roomed : tie.After-room-test → tie.Start
 roomed c = shaped (c .before .before)
 
+abbrev before-room : tie.After-enum-told3 → tie.After-enum-told
+before-room c = let tested = c .before .before in tested .before .before
+
 abbrev fitted : tie.After-enum-told3 → tie.Start
-fitted c = roomed (c .before .before)
+fitted c = shaped (before-room c)
+
+abbrev before-masks : tie.After-enum-told5 → tie.After-enum-told3
+before-masks c = c .before .before .before
 
 abbrev masked : tie.After-enum-told5 → tie.Start
-masked c = fitted (c .before .before .before)
+masked c = fitted (before-masks c)
+
+abbrev before-left : tie.After-enum-told7 → tie.After-enum-told5
+before-left c = c .before .before .before
 
 abbrev sided : tie.After-enum-told7 → tie.Start
-sided c = masked (c .before .before .before)
+sided c = masked (before-left c)
 
--- ---- the tests that are left there
+-- ---- what the tests said there
 
 abbrev call : tie.Start → Call
 call s =
@@ -43,29 +51,17 @@ room-tested : (c : tie.After-room-test) → c .room-test .result ≡ roomTest (r
 unfolding roomTest
 room-tested c = c .room-test .ensures
 
-after-shape : (c : tie.After-enum-told)
-    → compareTest (call (shaped c))
-    ≡ inOrder (roomTest (shaped c .args .room) (call (shaped c) .lent) ∷ masksTest (call (shaped c) .question .pattern) ∷ setTest (shaped c .args .states) (shaped c .args .x) ∷ setTest (shaped c .args .states) (shaped c .args .y) ∷ [])
-unfolding compareTest
-after-shape c = order-next _ _ (sym (c .before .before .shape-test .ensures (shaped c .args .finals)) ∙ c .enum-told .given .1)
+shape-fine : (c : tie.After-enum-told) → shapeTest (call (shaped c) .question .pattern) ≡ Fine
+shape-fine c = sym (c .before .before .shape-test .ensures (shaped c .args .finals)) ∙ c .enum-told .given .1
 
-after-room : (c : tie.After-enum-told3)
-    → compareTest (call (fitted c))
-    ≡ inOrder (masksTest (call (fitted c) .question .pattern) ∷ setTest (fitted c .args .states) (fitted c .args .x) ∷ setTest (fitted c .args .states) (fitted c .args .y) ∷ [])
-after-room c =
-    let tested = c .before .before in
-    after-shape (tested .before .before) ∙ order-next _ _ (sym (room-tested tested) ∙ c .enum-told3 .given .1)
+room-fine : (c : tie.After-enum-told3) → roomTest (fitted c .args .room) (call (fitted c) .lent) ≡ Fine
+room-fine c = sym (room-tested (c .before .before)) ∙ c .enum-told3 .given .1
 
-after-masks : (c : tie.After-enum-told5)
-    → compareTest (call (masked c)) ≡ inOrder (setTest (masked c .args .states) (masked c .args .x) ∷ setTest (masked c .args .states) (masked c .args .y) ∷ [])
-after-masks c =
-    let tested = c .before .before in
-    after-room (tested .before) ∙ order-next _ _ (sym (tested .masks-test .ensures (masked c .args .letters)) ∙ c .enum-told5 .given .1)
+masks-fine : (c : tie.After-enum-told5) → masksTest (call (masked c) .question .pattern) ≡ Fine
+masks-fine c = sym (c .before .before .masks-test .ensures (masked c .args .letters)) ∙ c .enum-told5 .given .1
 
-after-left : (c : tie.After-enum-told7) → compareTest (call (sided c)) ≡ inOrder (setTest (sided c .args .states) (sided c .args .y) ∷ [])
-after-left c =
-    let tested = c .before .before in
-    after-masks (tested .before) ∙ order-next _ _ (sym (tested .set-test .ensures) ∙ c .enum-told7 .given .1)
+left-fine : (c : tie.After-enum-told7) → setTest (sided c .args .states) (sided c .args .x) ≡ Fine
+left-fine c = sym (c .before .before .set-test .ensures) ∙ c .enum-told7 .given .1
 
 -- ---- the needs
 
@@ -79,11 +75,10 @@ enum-told-2 : tie.Need-enum-told-2
 enum-told-2 c = search needs
 
 returns : tie.Need-returns
-unfolding compareTest
 returns c =
     let tested = c .before .before in
     let is = tested .shape-test .ensures (entered tested .args .finals) in
-    is ∙ sym (order-stop _ _ (sym is ∙ c .enum-told2 .given .1))
+    is ∙ sym (shape-decides (call (entered tested)) (sym is ∙ c .enum-told2 .given .1))
 
 slice-aggregate-room-test : tie.Need-slice-aggregate-room-test
 slice-aggregate-room-test c = search needs
@@ -101,7 +96,7 @@ returns-2 : tie.Need-returns-2
 returns-2 c =
     let tested = c .before .before in
     let is = room-tested tested in
-    is ∙ sym (after-shape (tested .before .before) ∙ order-stop _ _ (sym is ∙ c .enum-told4 .given .1))
+    is ∙ sym (room-decides (call (roomed tested)) (shape-fine (tested .before .before)) (sym is ∙ c .enum-told4 .given .1))
 
 masks-test-requires : tie.Need-masks-test-requires
 masks-test-requires c κs = search needs
@@ -115,8 +110,9 @@ enum-told-6 c = search needs
 returns-3 : tie.Need-returns-3
 returns-3 c =
     let tested = c .before .before in
-    let is = tested .masks-test .ensures (fitted (tested .before) .args .letters) in
-    is ∙ sym (after-room (tested .before) ∙ order-stop _ _ (sym is ∙ c .enum-told6 .given .1))
+    let room = tested .before in
+    let is = tested .masks-test .ensures (fitted room .args .letters) in
+    is ∙ sym (masks-decide (call (fitted room)) (shape-fine (before-room room)) (room-fine room) (sym is ∙ c .enum-told6 .given .1))
 
 set-test-requires : tie.Need-set-test-requires
 set-test-requires c κs = search needs
@@ -130,14 +126,20 @@ enum-told-8 c = search needs
 returns-4 : tie.Need-returns-4
 returns-4 c =
     let tested = c .before .before in
+    let masks = tested .before in
+    let room = before-masks masks in
     let is = tested .set-test .ensures in
-    is ∙ sym (after-masks (tested .before) ∙ order-stop _ _ (sym is ∙ c .enum-told8 .given .1))
+    is ∙ sym (left-decides (call (masked masks)) (shape-fine (before-room room)) (room-fine room) (masks-fine masks) (sym is ∙ c .enum-told8 .given .1))
 
 set-test-requires-2 : tie.Need-set-test-requires-2
 set-test-requires-2 c κs = search needs
 
 returns-5 : tie.Need-returns-5
-returns-5 c = c .set-test2 .ensures ∙ sym (after-left (c .before) ∙ order-last _)
+returns-5 c =
+    let left = c .before in
+    let masks = before-left left in
+    let room = before-masks masks in
+    c .set-test2 .ensures ∙ sym (right-decides (call (sided left)) (shape-fine (before-room room)) (room-fine room) (masks-fine masks) (left-fine left))
 
 pub compare-test-spec : {M : Type 1} → statement M
 compare-test-spec =

@@ -58,13 +58,12 @@ inv : (k : tie.After-slice-known10 Inv-loop μ-loop)
     (lentOf (now .lefts) (now .rights) (now .parents) (now .taken) (now .sequence)) (now .kept) (now .examined))
 inv k = here k .before .loop .inv
 
-remains : (k : tie.After-slice-known10 Inv-loop μ-loop)
-    → here k .before .loop .examined < 1 + entered (here k .before) .args .letters * here k .before .loop .kept
-remains k = here k .loop-test .taken
+remains : (c : tie.In-loop Inv-loop μ-loop) → c .before .loop .examined < 1 + entered (c .before) .args .letters * c .before .loop .kept
+remains c = omega (arith, c .loop-test .taken)
 
 -- one candidate more can be counted
 one-more : (k : tie.After-slice-known10 Inv-loop μ-loop) → here k .before .loop .examined + 1 < 2 ^ 64
-one-more k = omega (arith, count-small (inv k), remains k)
+one-more k = omega (arith, count-small (inv k), remains (here k))
 
 loop-holds : tie.Need-loop-holds Inv-loop μ-loop
 loop-holds c =
@@ -80,7 +79,7 @@ add-loop c = omega (arith, count-small (c .loop .inv))
 deal-requires : tie.Need-deal-requires Inv-loop μ-loop
 deal-requires c κs =
     let here = turn c in
-    walking-ready (here .before .loop .inv) (here .loop-test .taken)
+    walking-ready (here .before .loop .inv) (remains here)
 
 enum-known-dealt : tie.Need-enum-known-dealt Inv-loop μ-loop
 enum-known-dealt c = search needs
@@ -91,7 +90,7 @@ add-examined c = omega (arith, one-more (c .before .before .before))
 loop-less : tie.Need-loop-less Inv-loop μ-loop
 loop-less c =
     let k = c .before .before .before in
-    omega (arith, count-within (inv k), remains k)
+    omega (arith, count-within (inv k), remains (here k))
 
 loop-again : tie.Need-loop-again Inv-loop μ-loop
 loop-again c =

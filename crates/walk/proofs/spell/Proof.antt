@@ -66,7 +66,7 @@ loop-again c =
     climbing-step (turn .before .loop .inv) (turn .loop-test .taken) (c .wide .ensures)
 
 slice-write-sequence : tie.Need-slice-write-sequence Inv-loop μ-loop Inv-loop2 μ-loop2
-slice-write-sequence c = room-left (c .before)
+slice-write-sequence c = omega (arith, room-left (c .before))
 
 loop2-holds : tie.Need-loop2-holds Inv-loop μ-loop Inv-loop2 μ-loop2
 loop2-holds c =
