@@ -1,140 +1,79 @@
-//! The library's comparison as a host calls it, over lent lists and over lent records.
-use reference::pattern::Pattern;
+//! What a host lends to the library's comparison, made once and not cleared between calls.
+use pressbadger::{compare, compare_lists, Compared, Pattern, Record};
+use reference::questions::Question;
 
-#[repr(C)]
-#[derive(Clone, Copy, Debug, PartialEq, Eq)]
-pub struct Compared {
-    pub answer: u8,
-    pub kept: usize,
-    pub examined: usize,
-    pub length: usize,
+/// The number of the answer, and how many were kept and examined.
+pub type Counts = (u64, u64, u64);
+
+fn pattern(question: &Question) -> Pattern<'_> {
+    Pattern {
+        states: question.pattern.states as usize,
+        letters: question.pattern.letters as usize,
+        finals: question.pattern.finals,
+        rows: &question.pattern.rows,
+    }
 }
 
-extern "C" {
-    fn pb_compare_lists(
-        states: usize,
-        letters: usize,
-        finals: u64,
-        rows: *const u64,
-        rows_count: usize,
-        x: u64,
-        y: u64,
-        room: usize,
-        lefts: *mut u64,
-        lefts_count: usize,
-        rights: *mut u64,
-        rights_count: usize,
-        parents: *mut u16,
-        parents_count: usize,
-        taken: *mut u8,
-        taken_count: usize,
-        sequence: *mut u8,
-        sequence_count: usize,
-    ) -> Compared;
-
-    fn pb_compare(
-        states: usize,
-        letters: usize,
-        finals: u64,
-        rows: *const u64,
-        rows_count: usize,
-        x: u64,
-        y: u64,
-        room: usize,
-        records: *mut Record,
-        records_count: usize,
-        sequence: *mut u8,
-        sequence_count: usize,
-    ) -> Compared;
+fn counts<Records>(compared: &Compared<'_, Records>, kept: impl Fn(&Records) -> usize) -> Counts {
+    let (records, examined) = match compared {
+        Compared::Same { records, examined }
+        | Compared::Different { records, examined, .. }
+        | Compared::Full { records, examined } => (records, *examined),
+        Compared::Refused(refusal) => panic!("{refusal:?}"),
+    };
+    (u64::from(compared.number()), kept(records) as u64, examined as u64)
 }
 
-#[repr(C)]
-#[derive(Clone, Copy, Default)]
-pub struct Record {
-    left: u64,
-    right: u64,
-    parent: u16,
-    letter: u8,
+/// The comparison over lists.
+pub struct ByLists {
+    lefts: Vec<u64>,
+    rights: Vec<u64>,
+    parents: Vec<u16>,
+    letters: Vec<u8>,
+    sequence: Vec<u8>,
 }
 
-/// What a host lends, made once and not cleared between calls.
-pub struct Records {
+impl ByLists {
+    pub fn new(room: usize) -> ByLists {
+        ByLists {
+            lefts: vec![0; room],
+            rights: vec![0; room],
+            parents: vec![0; room],
+            letters: vec![0; room],
+            sequence: vec![0; room],
+        }
+    }
+
+    pub fn compare(&mut self, question: &Question) -> Counts {
+        let room = self.sequence.len();
+        let lists = pressbadger::Lists {
+            lefts: &mut self.lefts,
+            rights: &mut self.rights,
+            parents: &mut self.parents,
+            letters: &mut self.letters,
+        };
+        let compared = compare_lists(&pattern(question), question.x, question.y, room, lists, &mut self.sequence);
+        counts(&compared, |columns| columns.lefts.len())
+    }
+}
+
+/// The comparison over records.
+pub struct ByRecords {
     records: Vec<Record>,
     sequence: Vec<u8>,
 }
 
-impl Records {
-    pub fn new(room: usize) -> Records {
-        Records {
+impl ByRecords {
+    pub fn new(room: usize) -> ByRecords {
+        ByRecords {
             records: vec![Record::default(); room],
             sequence: vec![0; room],
         }
     }
 
-    pub fn compare(&mut self, pattern: &Pattern, x: u64, y: u64, room: usize) -> Compared {
-        // SAFETY: every pointer is that of a live vector, with its length beside it.
-        unsafe {
-            pb_compare(
-                pattern.states as usize,
-                pattern.letters as usize,
-                pattern.finals,
-                pattern.rows.as_ptr(),
-                pattern.rows.len(),
-                x,
-                y,
-                room,
-                self.records.as_mut_ptr(),
-                self.records.len(),
-                self.sequence.as_mut_ptr(),
-                self.sequence.len(),
-            )
-        }
-    }
-}
-
-/// What a host lends, made once and not cleared between calls.
-pub struct Lists {
-    lefts: Vec<u64>,
-    rights: Vec<u64>,
-    parents: Vec<u16>,
-    taken: Vec<u8>,
-    sequence: Vec<u8>,
-}
-
-impl Lists {
-    pub fn new(room: usize) -> Lists {
-        Lists {
-            lefts: vec![0; room],
-            rights: vec![0; room],
-            parents: vec![0; room],
-            taken: vec![0; room],
-            sequence: vec![0; room],
-        }
-    }
-
-    pub fn compare(&mut self, pattern: &Pattern, x: u64, y: u64, room: usize) -> Compared {
-        // SAFETY: every pointer is that of a live vector, with its length beside it.
-        unsafe {
-            pb_compare_lists(
-                pattern.states as usize,
-                pattern.letters as usize,
-                pattern.finals,
-                pattern.rows.as_ptr(),
-                pattern.rows.len(),
-                x,
-                y,
-                room,
-                self.lefts.as_mut_ptr(),
-                self.lefts.len(),
-                self.rights.as_mut_ptr(),
-                self.rights.len(),
-                self.parents.as_mut_ptr(),
-                self.parents.len(),
-                self.taken.as_mut_ptr(),
-                self.taken.len(),
-                self.sequence.as_mut_ptr(),
-                self.sequence.len(),
-            )
-        }
+    pub fn compare(&mut self, question: &Question) -> Counts {
+        let room = self.sequence.len();
+        let compared = compare(&pattern(question), question.x, question.y, room, &mut self.records, &mut self.sequence);
+        counts(&compared, |records| records.len())
     }
 }

@@ -1,11 +1,12 @@
-//! Prints the figures of docs/FIGURES.md: each is a ratio or a count, measured in this one run.
+//! Prints the tables of docs/FIGURES.md: each figure is a ratio or a count, measured in this one run.
 mod library;
 
-use library::{Lists, Records};
+use library::{ByLists, ByRecords, Counts};
 use reference::questions::{self, Finals, Question};
 use reference::random::Random;
 use reference::walk::compare;
 use std::hint::black_box;
+use std::slice::from_ref;
 use std::time::{Duration, Instant};
 
 const ROOM: usize = 1024;
@@ -30,66 +31,59 @@ fn random_questions(seed: u64, states: u64, finals: Finals) -> Vec<Question> {
         .collect()
 }
 
-/// The least time of one pass over the questions, over some rounds in which both take turns.
-struct Times {
-    library: Duration,
-    plain: Duration,
+/// The reference's comparison.
+fn plain(question: &Question) -> Counts {
+    let room = ROOM as u64;
+    let compared = compare(&question.pattern, question.x, question.y, room, &[room], room);
+    (compared.answer, compared.kept, compared.examined)
 }
 
-impl Times {
-    fn ratio(&self) -> f64 {
-        self.library.as_secs_f64() / self.plain.as_secs_f64()
-    }
-}
-
-fn times(questions: &[Question], rounds: usize) -> Times {
-    let mut lists = Lists::new(ROOM);
-    let lengths = [ROOM as u64; 4];
-    let mut least = Times {
-        library: Duration::MAX,
-        plain: Duration::MAX,
-    };
+/// The least times of a pass over the questions by each of two comparisons that take turns.
+fn times(
+    questions: &[Question],
+    rounds: usize,
+    mut first: impl FnMut(&Question) -> Counts,
+    mut second: impl FnMut(&Question) -> Counts,
+) -> (f64, f64) {
+    let (mut least_first, mut least_second) = (Duration::MAX, Duration::MAX);
     for _ in 0..rounds {
         let start = Instant::now();
-        for q in questions {
-            black_box(lists.compare(black_box(&q.pattern), q.x, q.y, ROOM));
+        for question in questions {
+            black_box(first(black_box(question)));
         }
-        least.library = least.library.min(start.elapsed());
+        least_first = least_first.min(start.elapsed());
         let start = Instant::now();
-        for q in questions {
-            black_box(compare(black_box(&q.pattern), q.x, q.y, ROOM as u64, &lengths, ROOM as u64));
+        for question in questions {
+            black_box(second(black_box(question)));
         }
-        least.plain = least.plain.min(start.elapsed());
+        least_second = least_second.min(start.elapsed());
     }
-    least
+    (least_first.as_secs_f64(), least_second.as_secs_f64())
 }
 
-/// Both answer the same; the numbers of kept pairs, sorted.
-fn kept(questions: &[Question]) -> Vec<usize> {
-    let mut lists = Lists::new(ROOM);
-    let lengths = [ROOM as u64; 4];
-    let mut kept: Vec<usize> = questions
+/// How many pairs each question keeps, sorted; both sides answer and count the same.
+fn kept(questions: &[Question]) -> Vec<u64> {
+    let mut lists = ByLists::new(ROOM);
+    let mut kept: Vec<u64> = questions
         .iter()
-        .map(|q| {
-            let ours = lists.compare(&q.pattern, q.x, q.y, ROOM);
-            let plain = compare(&q.pattern, q.x, q.y, ROOM as u64, &lengths, ROOM as u64);
-            assert_eq!(
-                (u64::from(ours.answer), ours.kept as u64, ours.examined as u64, ours.length as u64),
-                (plain.answer, plain.kept, plain.examined, plain.length)
-            );
-            ours.kept
+        .map(|question| {
+            let counts = lists.compare(question);
+            assert_eq!(counts, plain(question));
+            counts.1
         })
         .collect();
     kept.sort_unstable();
     kept
 }
 
-fn line(name: &str, questions: &[Question]) {
+fn random_line(name: &str, questions: &[Question]) {
     let kept = kept(questions);
     let at = |percent: usize| kept[(kept.len() * percent).div_ceil(100).saturating_sub(1)];
+    let mut lists = ByLists::new(ROOM);
+    let (library, rust) = times(questions, ROUNDS, |q| lists.compare(q), plain);
     println!(
         "| {name} | {:.2} | {} | {} | {} | {} |",
-        times(questions, ROUNDS).ratio(),
+        library / rust,
         at(50),
         at(90),
         at(99),
@@ -100,10 +94,10 @@ fn line(name: &str, questions: &[Question]) {
 fn random_table() {
     println!("| {AUTOMATA} random automata, two letters, density 1.25 | library / plain Rust | kept: median | 90% | 99% | largest |");
     println!("|---|---|---|---|---|---|");
-    line("64 states, half of them final", &random_questions(1, 64, Finals::Half));
-    line("64 states, none final", &random_questions(2, 64, Finals::None));
-    line("50 states, half of them final", &random_questions(3, 50, Finals::Half));
-    line("50 states, none final", &random_questions(4, 50, Finals::None));
+    random_line("64 states, half of them final", &random_questions(1, 64, Finals::Half));
+    random_line("64 states, none final", &random_questions(2, 64, Finals::None));
+    random_line("50 states, half of them final", &random_questions(3, 50, Finals::Half));
+    random_line("50 states, none final", &random_questions(4, 50, Finals::None));
     println!("| 000, Table 1: 50 states, none final | | 21 | 26 | 32 | 63 |");
 }
 
@@ -114,12 +108,12 @@ fn growth_table() {
     let mut before: Option<f64> = None;
     for switches in 4..=10 {
         let question = questions::switches(switches);
-        let answer = Lists::new(ROOM).compare(&question.pattern, question.x, question.y, ROOM);
-        let times = times(std::slice::from_ref(&question), 5);
-        let now = times.library.as_secs_f64();
-        let growth = before.map_or(String::from("-"), |b| format!("{:.1}", now / b));
-        println!("| {} | {} | {:.2} | {} |", answer.kept, answer.examined, times.ratio(), growth);
-        before = Some(now);
+        let mut lists = ByLists::new(ROOM);
+        let (_, kept, examined) = lists.compare(&question);
+        let (library, rust) = times(from_ref(&question), ROUNDS, |q| lists.compare(q), plain);
+        let growth = before.map_or(String::from("-"), |b| format!("{:.1}", library / b));
+        println!("| {kept} | {examined} | {:.2} | {growth} |", library / rust);
+        before = Some(library);
     }
 }
 
@@ -128,35 +122,18 @@ fn entry_table() {
     println!("| question | records / lists |");
     println!("|---|---|");
     let tiny = questions::switches(1);
-    let small = random_questions(5, 64, Finals::None);
+    let drawn = random_questions(5, 64, Finals::None);
     let large = questions::switches(10);
     let cases: [(&str, &[Question], usize); 3] = [
-        ("2 pairs kept", std::slice::from_ref(&tiny), 2000),
-        ("1000 random automata of 64 states, none final", &small, ROUNDS),
-        ("1024 pairs kept", std::slice::from_ref(&large), 5),
+        ("2 pairs kept", from_ref(&tiny), 2000),
+        ("1000 random automata of 64 states, none final", &drawn, ROUNDS),
+        ("1024 pairs kept", from_ref(&large), ROUNDS),
     ];
     for (name, questions, rounds) in cases {
-        println!("| {name} | {:.2} |", entry_ratio(questions, rounds));
+        let (mut lists, mut records) = (ByLists::new(ROOM), ByRecords::new(ROOM));
+        let (by_records, by_lists) = times(questions, rounds, |q| records.compare(q), |q| lists.compare(q));
+        println!("| {name} | {:.2} |", by_records / by_lists);
     }
-}
-
-fn entry_ratio(questions: &[Question], rounds: usize) -> f64 {
-    let mut lists = Lists::new(ROOM);
-    let mut records = Records::new(ROOM);
-    let (mut by_lists, mut by_records) = (Duration::MAX, Duration::MAX);
-    for _ in 0..rounds {
-        let start = Instant::now();
-        for q in questions {
-            black_box(lists.compare(black_box(&q.pattern), q.x, q.y, ROOM));
-        }
-        by_lists = by_lists.min(start.elapsed());
-        let start = Instant::now();
-        for q in questions {
-            black_box(records.compare(black_box(&q.pattern), q.x, q.y, ROOM));
-        }
-        by_records = by_records.min(start.elapsed());
-    }
-    by_records.as_secs_f64() / by_lists.as_secs_f64()
 }
 
 fn main() {
