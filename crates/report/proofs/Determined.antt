@@ -4,17 +4,15 @@ use mathlib.Core.List.{List, [], _∷_, _++_}
 use Prim.Native.Nat.{ℕ, _*_}
 use lib.ListN.{length, take, drop}
 use lib.Seq.{take-append-seam, drop-append-seam, take-at, drop-at}
-use Rattle.pattern.specs.Pattern.{Pattern}
 use Rattle.numbers.specs.Format.{got, refused}
 use Rattle.numbers.proofs.Formats.{refused-got}
 use Rattle.patternfile.specs.PatternFile.{numbersOf}
-use Rattle.patternfile.specs.Reader.{FileOf}
 use Rattle.walk.specs.Walk.{Question, Outcome, Walk}
 use Rattle.walk.specs.Answers.{Lent, defaultRoom, keptOf, wordOf, layOut}
 use Rattle.walk.proofs.WalkUnique.{walk-unique}
 use Rattle.text.specs.Text.{Put}
 use Rattle.text.proofs.Putting.{put-determined}
-use Rattle.report.specs.Report.{textOf, refusalText, Asks, Refuses, Prints, Leaves, Reports}
+use Rattle.report.specs.Report.{textOf, Asks, Refuses, Prints, Leaves, Reports}
 use Rattle.report.specs.Report.Prints.{refuses, answers}
 use Rattle.report.specs.Report.Leaves.{unchanged, laid}
 

@@ -1,10 +1,9 @@
 -- How long lines can be: twenty digits to a number, nine bytes to a name. Assumes nothing.
-use mathlib.Core.Path.{_≡_}
 use mathlib.Core.List.{List, [], _∷_, map}
 use Prim.Native.Nat.{ℕ, zero, suc, _+_, _*_, _<_, _≤_}
 use native.Mathlib.Omega.{arith}
 use lib.ListN.{length, take, getD, length-append}
-use Rattle.text.specs.Text.{word, decimal, spaced, joined, line}
+use Rattle.text.specs.Text.{decimal, spaced, joined, line}
 use Rattle.text.proofs.Decimal.{decimal-short}
 use Rattle.text.proofs.Lines.{spaced-length, line-length}
 use Rattle.events.specs.Events.{eventName}

@@ -29,7 +29,7 @@ use Rattle.report.proofs.Answered.{answer-text}
 
 -- ---- a text that was put
 
-pub reported : {input text old : List ℕ} {r : ℕ} {new : List ℕ} → Prints input text → Put old 0 text r new → Reports input old r new
+reported : {input text old : List ℕ} {r : ℕ} {new : List ℕ} → Prints input text → Put old 0 text r new → Reports input old r new
 reported {r = r} {new} prints put =
     let within : r ≤ length new = omega (arith, put .within, put-length put) in
     record { text = _; prints = prints; put = put; within = within; counted = sym (length-take-le r new within) }
@@ -57,16 +57,16 @@ walked fine (Compared.walks {o} f w) = record { outcome = o; walk = w; answered 
 
 -- ---- a file that was read
 
-pub record Taken (input rows : List ℕ) (n k f x y : ℕ) (new : List ℕ) : Type 0 where
+pub record Accepted (input rows : List ℕ) (n k f x y : ℕ) (new : List ℕ) : Type 0 where
   pub bytes : AreBytes input
   pub size : length rows ≡ rowRoom
   pub done : ReadDone input rows n k f x y new
 
-pub taken : (input rows new : List ℕ) {read : PatternRead} {n k f x y : ℕ} → AreBytes input → length rows ≡ rowRoom → Reads input rows read new → read ≡ Read.Done n k f x y
-    → Taken input rows n k f x y new
-taken input rows new bytes size reads q = record { bytes = bytes; size = size; done = subst (λ (z : PatternRead). Reads input rows z new) q reads }
+pub accepted : (input rows new : List ℕ) {read : PatternRead} {n k f x y : ℕ} → AreBytes input → length rows ≡ rowRoom → Reads input rows read new → read ≡ Read.Done n k f x y
+    → Accepted input rows n k f x y new
+accepted input rows new bytes size reads q = record { bytes = bytes; size = size; done = subst (λ (z : PatternRead). Reads input rows z new) q reads }
 
-module _ {input rows : List ℕ} {n k f x y : ℕ} {new : List ℕ} (t : Taken input rows n k f x y new) where
+module _ {input rows : List ℕ} {n k f x y : ℕ} {new : List ℕ} (t : Accepted input rows n k f x y new) where
   abbrev found : List ℕ
   found = t .done .rows
 
@@ -82,16 +82,16 @@ module _ {input rows : List ℕ} {n k f x y : ℕ} {new : List ℕ} (t : Taken i
       let h : 0 + length found ≤ length rows = omega (arith, few-rows, t .done .file .tabled) in
       ap (take (n * k)) (t .done .written ∙ sets-eq found rows 0 h) ∙ take-at found (drop (0 + length found) rows) (n * k) (t .done .file .tabled)
 
-  abbrev pub question : Question
+  abbrev question : Question
   question = questionOf n k f (take (n * k) new) x y
 
-  pub asks : Asks input question
+  asks : Asks input question
   asks = rw (rows-read, ← t .size) (t .done .file)
 
-  pub proper : Proper question
+  proper : Proper question
   proper = rw rows-read (record { valid = contents .valid; left-good = contents .good-x; right-good = contents .good-y })
 
-  pub rows-laid : new ≡ sets rows 0 (take (n * k) new)
+  rows-laid : new ≡ sets rows 0 (take (n * k) new)
   rows-laid = rw rows-read (t .done .written)
 
   -- so the comparison does not refuse it, and its answer is the walk's outcome

@@ -2,8 +2,10 @@
 --   recordLines kept          a line for each record: left and right in decimal
 --   textOf outcome            the answer's name, kept, examined, and for DIFFERENT the length too; after SAME the records, after DIFFERENT the sequence
 --   refusalText number place  `REFUSED`, its number and the place
---   Asks input Q              the bytes taken in are the pattern file of the question Q
---   Prints input text         what is printed for the bytes taken in: one text for each input (`prints-determined`)
+--   Asks input Q              the bytes taken in are the pattern file of the question Q, and of no other (`asks-one`)
+--   Refuses input w place     reading them gives the refusal w at a place
+--   Prints input text         what is printed for the bytes taken in: one text for each input (`prints-determined`), which no byte from
+--                             20,513 on changes (`cap-prints-the-same`)
 --   Lends rows lent out       the buffers that the program lends
 --   Leaves input ..           what those hold then: nothing is left open (`leaves-determined`)
 --   Reports input old r new   the text stands at the start of the byte buffer, r bytes, and the rest is as it was (`reports-determined`)

@@ -56,10 +56,10 @@ fn put_records(out: &mut [u8], at: usize, lefts: &[u64], rights: &[u64]) -> usiz
     ensures { λ r. ⌜ Put (now (out .entry)) at (pairLines (now (lefts .entry)) (now (rights .entry))) r (now (out .exit)) ⌝ }
 {
     let mut place = at;
-    let mut i: usize = 0;
-    while i < lefts.len() {
-        place = put_record(out, place, lefts[i], rights[i]);
-        i = i + 1;
+    let mut record: usize = 0;
+    while record < lefts.len() {
+        place = put_record(out, place, lefts[record], rights[record]);
+        record = record + 1;
     }
     place
 }

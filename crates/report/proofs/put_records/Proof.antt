@@ -1,4 +1,4 @@
--- `report::put_records` puts a line for each record: in each turn those from i on are left, to be put from the place on.
+-- `report::put_records` puts a line for each record: in each turn those from record i on are left, to be put from the place on.
 use Prim.Native.Nat.{ℕ, _≤_, _<_, _+_, _-_}
 use mathlib.Core.List.{List, [], _∷_, _++_}
 use mathlib.Core.Path.{_≡_}
@@ -36,7 +36,7 @@ module _ (c : tie.In-loop Inv-loop μ-loop) where
   rights = start .args .rights .now
 
   abbrev i : ℕ
-  i = c .before .loop .i
+  i = c .before .loop .record
 
   in-rights : i < length rights
   in-rights = omega (arith, start .pre .0, c .loop-test .taken)
@@ -59,15 +59,15 @@ mul-put-record-2 : tie.Need-mul-put-record-2 Inv-loop μ-loop
 mul-put-record-2 c = omega (arith, in-rights (c .before .before))
 
 shared-slice-read-put-record-2 : tie.Need-shared-slice-read-put-record-2 Inv-loop μ-loop
-shared-slice-read-put-record-2 c = in-rights (c .before .before .before)
+shared-slice-read-put-record-2 c = omega (arith, in-rights (c .before .before .before))
 
 put-record-requires : tie.Need-put-record-requires Inv-loop μ-loop
 put-record-requires c κs =
     let turn = c .before .before .before in
     left-room (own (lefts turn) (rights turn) (i turn)) (from (lefts turn) (rights turn) (i turn + 1)) (turn .before .loop .inv .1) (one-left turn)
 
-add-i : tie.Need-add-i Inv-loop μ-loop
-add-i c = omega arith
+add-record : tie.Need-add-record Inv-loop μ-loop
+add-record c = omega arith
 
 loop-less : tie.Need-loop-less Inv-loop μ-loop
 loop-less c = omega arith
@@ -84,7 +84,7 @@ same-length c = left-length (c .before .loop .inv .1)
 returns : tie.Need-returns Inv-loop μ-loop
 returns c =
     let start = c .before .before .before .before .before in
-    left-done (c .before .loop .inv .1) (pairs-none (start .args .lefts .now) (start .args .rights .now) (c .before .loop .i) (c .loop-test .left))
+    left-done (c .before .loop .inv .1) (pairs-none (start .args .lefts .now) (start .args .rights .now) (c .before .loop .record) (c .loop-test .left))
 
 pub put-records-spec : {M : Type 1} → statement M
 put-records-spec =
@@ -98,7 +98,7 @@ put-records-spec =
     mul-put-record-2
     shared-slice-read-put-record-2
     put-record-requires
-    add-i
+    add-record
     loop-less
     loop-again
     same-length

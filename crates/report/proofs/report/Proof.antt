@@ -1,13 +1,13 @@
 -- `report::report` reads the file and puts the refusal's text, or compares and puts the answer's; the comparison refuses no file that was read.
 use mathlib.Core.List.{List}
-use mathlib.Core.Path.{_≡_, sym, _∙_}
+use mathlib.Core.Path.{sym}
 use Prim.Native.Nat.{ℕ, _*_, _≤_}
 use native.Mathlib.Omega.{arith}
 use borrow.Author.Needs.{needs}
 use lib.ListN.{length}
 use lib.Seq.{length-take-le}
 use Rattle.numbers.specs.Numbers.{AreBytes}
-use Rattle.report.proofs.Reporting.{refusal-reported, Taken, taken, few-rows, answer-small, answer-reported}
+use Rattle.report.proofs.Reporting.{refusal-reported, Accepted, accepted, few-rows, answer-small, answer-reported}
 use Rattle.report.proofs.report.Statement.{statement}
 use Rattle.report.proofs.report.Tie as tie
 
@@ -25,15 +25,27 @@ module _ (c : tie.After-read) where
   abbrev new : List ℕ
   new = c .read .last .1 .0
 
--- the places: at a refusal, at a file that was read, and with it compared
+-- the places: at a refusal, at a file that was read, with its question compared, and with what that left in each list
 abbrev refused : tie.After-file → tie.After-read
 refused c = c .before .before .before .before
 
 abbrev done : tie.After-file2 → tie.After-read
 done c = c .before .before .before .before
 
-abbrev compared : tie.After-put-answer-arg → tie.After-compare-default
-compared c = c .before .before .before .before .before .before .before .before .before .before .before
+abbrev asked : tie.After-compare-default → tie.After-file2
+asked c = c .before .before .before .before .before .before .before .before
+
+abbrev compared : tie.After-lefts → tie.After-compare-default
+compared c = c .before
+
+abbrev left : tie.After-rights → tie.After-lefts
+left c = c .before .before
+
+abbrev right : tie.After-sequence → tie.After-rights
+right c = c .before .before .before .before .before .before
+
+abbrev spelt : tie.After-put-answer-arg → tie.After-sequence
+spelt c = c .before .before
 
 -- where the file has been read
 module _ (c : tie.After-file2) where
@@ -43,15 +55,11 @@ module _ (c : tie.After-file2) where
   bytes : AreBytes (input (done c))
   bytes = record { each = λ i. omega (arith, done c .before .before .before .before .before .before .before .before .before .shared-slice-known .given i) }
 
-  file : let v = c .file2 .given .0 in Taken (input (done c)) (rows (done c)) (v .0) (v .1 .0) (v .1 .1 .0) (v .1 .1 .1 .0) (v .1 .1 .1 .1 .0) (new (done c))
-  file = taken (input (done c)) (rows (done c)) (new (done c)) bytes (start (done c) .pre .rows-fit) (done c .read .ensures) (c .file2 .given .1)
+  file : let v = c .file2 .given .0 in Accepted (input (done c)) (rows (done c)) (v .0) (v .1 .0) (v .1 .1 .0) (v .1 .1 .1 .0) (v .1 .1 .1 .1 .0) (new (done c))
+  file = accepted (input (done c)) (rows (done c)) (new (done c)) bytes (start (done c) .pre .rows-fit) (done c .read .ensures) (c .file2 .given .1)
 
   counted : count ≤ length (new (done c))
   counted = omega (arith, few-rows file, c .before .before .before .rows .given)
-
--- where it has been compared
-abbrev asked : tie.After-compare-default → tie.After-file2
-asked c = c .before .before .before .before .before .before .before .before
 
 read-requires : tie.Need-read-requires
 read-requires c κs = search needs
@@ -81,19 +89,18 @@ compare-default-requires c κs = search needs
 
 put-answer-requires : tie.Need-put-answer-requires
 put-answer-requires c κs =
-    let placed = c .before .before .before in
-    let answer = compared placed in
+    let bytes-left = spelt (c .before .before .before) in
+    let rights-left = right bytes-left in
+    let lefts-left = left rights-left in
+    let answer = compared lefts-left in
     let lends = start (done (asked answer)) .pre in
-    let lent = lends .roomy in (
+    let roomy = lends .roomy in (
       lends .text-fits,
       (
-        answer-small (file (asked answer)) lent (answer .compare-default .ensures),
+        answer-small (file (asked answer)) roomy (answer .compare-default .ensures),
         (
-          omega (arith, lent .lefts-fit, placed .before .before .before .before .before .before .before .before .before .before .lefts .given),
-          (
-            omega (arith, lent .rights-fit, placed .before .before .before .before .before .before .before .before .rights .given),
-            omega (arith, lent .sequence-fits, placed .before .before .sequence .given),
-          ),
+          omega (arith, roomy .lefts-fit, lefts-left .lefts .given),
+          (omega (arith, roomy .rights-fit, rights-left .rights .given), omega (arith, roomy .sequence-fits, bytes-left .sequence .given)),
         ),
       ),
     )
@@ -135,7 +142,7 @@ same-length-9 c = search needs
 returns-2 : tie.Need-returns-2
 returns-2 c =
     let put = c .before .before in
-    let answer = compared (put .before .before .before .before) in
+    let answer = compared (left (right (spelt (put .before .before .before .before)))) in
     let read = asked answer in
     answer-reported (file read) (start (done read) .pre .roomy) (answer .compare-default .ensures) (put .put-answer .ensures)
 
