@@ -1,5 +1,5 @@
 -- What judging answers, case by case; and what a question that is not refused has. Assumes nothing.
-use mathlib.Core.Path.{_≡_, refl}
+use mathlib.Core.Path.{_≡_, refl, sym, _∙_}
 use mathlib.Core.Bool.{Bool}
 use mathlib.Core.List.{List}
 use Prim.Native.Nat.{ℕ, _<_}
@@ -12,9 +12,14 @@ use Rattle.sets.specs.Sets.{Good}
 use Rattle.pattern.specs.Pattern.{Pattern, Valid}
 use Rattle.pattern.specs.Language.{accepts, Over}
 use Rattle.pattern.specs.Judge.{letterTest, judgeTest, byLanguage, judged}
+use Rattle.pattern.specs.declared.Judged.{Judged}
 use Rattle.pattern.specs.declared.Judged.the-variants.{Refused}
 use Rattle.pattern.proofs.Validity.{set-fine, pattern-valid}
 use Rattle.pattern.proofs.Words.{over-from}
+
+-- judging is determined: its contract is an equation
+pub judge-determined : {P : Pattern} {set : ℕ} {sequence : List ℕ} {r s : Judged} → r ≡ judged P set sequence → s ≡ judged P set sequence → r ≡ s
+judge-determined p q = p ∙ sym q
 
 module _ (P : Pattern) (set : ℕ) (sequence : List ℕ) where
   pub judged-refused : {w : ℕ} → judgeTest P set sequence ≡ Against w → judged P set sequence ≡ Refused w
