@@ -18,8 +18,8 @@ use Rattle.pattern.proofs.Validity.{set-fine, pattern-valid}
 use Rattle.pattern.proofs.Words.{over-from}
 
 -- judging is determined: its contract is an equation
-pub judge-determined : {P : Pattern} {set : ℕ} {sequence : List ℕ} {r s : Judged} → r ≡ judged P set sequence → s ≡ judged P set sequence → r ≡ s
-judge-determined p q = p ∙ sym q
+pub judge-determined : (P : Pattern) (set : ℕ) (sequence : List ℕ) {r s : Judged} → r ≡ judged P set sequence → s ≡ judged P set sequence → r ≡ s
+judge-determined P set sequence p q = p ∙ sym q
 
 module _ (P : Pattern) (set : ℕ) (sequence : List ℕ) where
   pub judged-refused : {w : ℕ} → judgeTest P set sequence ≡ Against w → judged P set sequence ≡ Refused w
