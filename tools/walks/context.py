@@ -1,5 +1,8 @@
-# The context of a walk, kept by name, so that the positions in a proof are computed and not counted;
-# and what every generated proof file shares.
+# `python3 tools/walks/NAME.py` writes crates/pressbadger/proofs/records/NAME/Proof.antt, for each function NAME over a list of
+# records; `rt fmt` then lays the file out. The proofs are committed, and the prover checks them: nothing rests on these scripts.
+# Whoever changes the record, or the code of such a function, changes its script and writes the proof again.
+#
+# This file: the context of a walk, kept by name, so that the positions in a proof are computed and not counted.
 import os
 import re
 

@@ -1,4 +1,4 @@
-# Walks of entries that only call: numbers are passed on, a `&` is copied, and each `&mut` is given to one callee for good.
+# Walks of functions that only call: numbers are passed on, a `&` is copied, and each `&mut` is given to one callee for good.
 from context import Ctx, items, l, nest, sub, write
 
 USES = '''use mathlib.Core.Path.{_≡_, refl, sym, ap, _∙_, subst}
@@ -103,7 +103,7 @@ class Callee:
         self.muts = [i for i, a in enumerate(args) if isinstance(a, Slice) and a.mutable]
         self.names = ' '.join(n for n, _ in self.data)
         self.ks = nest(['κ' + sub(k) for k in self.lifetimes])
-        self.tuple = nest([a.value if ' ' not in a.value else a.value for a in args])
+        self.tuple = nest([a.value for a in args])
 
     def uses(self):
         m = CRATE + self.name
@@ -134,10 +134,9 @@ class Callee:
                 c.fjoin('own', 'h', 'h')
         if self.requires:
             c.move('t')
-            c.say('frame ! $ done !')
         else:
             c.join('t', 'h', 'all')
-            c.say('frame ! $ done !')
+        c.say('frame ! $ done !')
         given = ['‵ (flft κ%s q%s)' % (sub(k), sub(k)) for k in self.lifetimes] + ['‵ (%s .own %s (%s ∷ []))' % (a.type, a.value, a.machine) for a in self.slices]
         def bound(xs):
             return ''.join('(%s : %s) ' % x for x in xs)
@@ -172,8 +171,9 @@ class Callee:
 
 
 class Entry:
-    def __init__(self, name, purpose, params, result, denot, locals_, callees, uses, lemmas, values, exit_fact):
-        self.name, self.purpose, self.params, self.result, self.denot, self.callees = name, purpose, params, result, denot, callees
+    # denot: the type of the result, a struct whose module is E; exit_fact: what the entry ensures, over its result z
+    def __init__(self, name, purpose, params, denot, locals_, callees, uses, lemmas, values, exit_fact):
+        self.name, self.purpose, self.params, self.denot, self.callees = name, purpose, params, denot, callees
         self.locals, self.uses, self.lemmas, self.values, self.exit_fact = locals_, uses, lemmas, values, exit_fact
         self.count = len(locals_)
         self.slices = [p for p in params if isinstance(p, Slice)]
@@ -249,10 +249,11 @@ class Entry:
         c.head(1, 'ret')
         c.split('ret', 'tr', 'ens')
         c.move('ens')
-        fact = f.fact.replace('z ', z + ' ') if f.muts else f.fact.replace('z ', z + ' ')
+        fact = f.fact.replace('z ', z + ' ')
         if f.muts:
             ws = 'ws-' + f.symbol
-            shape = ''.join('%s × (' % ('(%s)' % a.last if ' ' in a.last and a.last != 'Unit {0}' else a.last) for a in f.args[:-1]) + '%s × Unit {0}' % ('(%s)' % f.args[-1].last if f.args[-1].last != 'Unit {0}' else f.args[-1].last) + ')' * (len(f.args) - 1)
+            lasts = ['(%s)' % a.last for a in f.args]
+            shape = ''.join('%s × (' % x for x in lasts[:-1]) + lasts[-1] + ' × Unit {0}' + ')' * (len(lasts) - 1)
             fact = fact.replace('@WS@', ws)
             c.bind('use1 W (some (λ (%s : %s). ‵ (lasts %s.ended %s %s %s) ⊛ raw (fact 𝓤 (%s)))) (id⊢ 𝓤 _) $ pick ! (λ %s.' % (ws, shape, f.alias, f.ks, f.tuple, ws, fact, ws))
             c.split('ens', 'last', 'fact')
@@ -273,7 +274,6 @@ class Entry:
             c.say('use1 W (raw (fact 𝓤 (%s))) (told-%s %s %s) $' % (fact, f.symbol, f.names, z))
             c.bind('heard ! (%s) (λ %s.' % (fact, e))
             c.c = c.c[1:]
-        cur = 'tr'
         c.split('tr', 'tks', 'res-' + z)
         cur = 'tks'
         for k in f.lifetimes:

@@ -16,7 +16,7 @@ check_sides = Callee('check_sides', numbers + [rows] + sets + [n, sides], ('stru
 
 entry = Entry(
     'pb_check_records', '`pressbadger::records::pb_check_records` meets its contract: a walk of its code, which calls three functions and looks into nothing.',
-    numbers + [rows] + sets + [records], 'E', 'PbChecked',
+    numbers + [rows] + sets + [records], 'PbChecked',
     ['E′.mir', 'word', 'word', 'word', 'rowsTy', 'word', 'word', 'recordsTy', 'word', 'S′.mir', 'word'],
     [shown, gather, check_sides],
     '''use Rattle.pattern.specs.Pattern.{patternOf}

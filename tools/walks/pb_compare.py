@@ -16,7 +16,7 @@ compared_in = Callee('compared_in', [found], ('struct', 'E', 'PbCompared'), 'z �
 
 entry = Entry(
     'pb_compare', '`pressbadger::records::pb_compare` meets its contract: a walk of its code, which calls four functions and looks into nothing.',
-    numbers + [rows] + sets + [room, records, sequence], 'E', 'PbCompared',
+    numbers + [rows] + sets + [room, records, sequence], 'PbCompared',
     ['E′.mir', 'word', 'word', 'word', 'rowsTy', 'word', 'word', 'word', 'recordsTy', 'bytesTy', 'F′.mir', 'word', 'word', '(tyRef erased mut byte)', '(sliceTy (tyRef erased mut byte))', 'tyUnit', '(tyRef erased mut recTy)', '(sliceTy (tyRef erased mut recTy))'],
     [find, kept_in, fill, compared_in],
     '''use Rattle.walk.specs.Walk.{Question, questionOf}

@@ -11,7 +11,7 @@ pb_compare = Callee('pb_compare', numbers + [rows] + sets + [room, records, sequ
 
 entry = Entry(
     'pb_compare_default', '`pressbadger::records::pb_compare_default` meets its contract: a walk of its code, which calls two functions.',
-    numbers + [rows] + sets + [records, sequence], 'E', 'PbCompared',
+    numbers + [rows] + sets + [records, sequence], 'PbCompared',
     ['E′.mir', 'word', 'word', 'word', 'rowsTy', 'word', 'word', 'recordsTy', 'bytesTy', 'word', '(tyRef erased mut recTy)', '(sliceTy (tyRef erased mut recTy))', '(tyRef erased mut byte)', '(sliceTy (tyRef erased mut byte))'],
     [default_room, pb_compare],
     '''use Rattle.walk.specs.Walk.{Question, questionOf}

@@ -198,18 +198,18 @@ fn gather(records: &[PbRecord], n: usize) -> Sides
     requires { ⌜ (n ≤ 1025) × (n ≤ length (now records)) ⌝ }
     ensures { λ r. ⌜ Gathers (now (records .entry)) n r ⌝ }
 {
-    let mut lefts = zeros();
-    let mut rights = zeros();
+    let mut left = zeros();
+    let mut right = zeros();
     let mut i = 0;
     while i < n {
         let pair = records[i];
-        lefts[i] = pair.left;
-        rights[i] = pair.right;
+        left[i] = pair.left;
+        right[i] = pair.right;
         i += 1;
     }
     Sides {
-        lefts: lefts,
-        rights: rights,
+        lefts: left,
+        rights: right,
     }
 }
 

@@ -1,21 +1,22 @@
 -- `pressbadger::records::check_sides` gives the number and the place of what the check of the pairs answers.
 use mathlib.Core.Path.{sym}
+use native.Mathlib.Omega.{arith}
 use lib.Seq.{length-take-le}
 use borrow.Author.Needs.{needs}
 use Rattle.pressbadger.proofs.records.check_sides.Statement.{statement}
 use Rattle.pressbadger.proofs.records.check_sides.Tie as tie
 
 array-share-prefix-lefts : tie.Need-array-share-prefix-lefts
-array-share-prefix-lefts c = c .before .before .before .pre .0
+array-share-prefix-lefts c = let (left, right) = c .before .before .before .pre in omega (arith, left, right)
 
 slice-aggregate-check : tie.Need-slice-aggregate-check
-slice-aggregate-check c = sym (length-take-le _ _ (c .before .before .before .before .pre .0))
+slice-aggregate-check c = let (left, right) = c .before .before .before .before .pre in sym (length-take-le _ _ (omega (arith, left, right)))
 
 array-share-prefix-rights : tie.Need-array-share-prefix-rights
-array-share-prefix-rights c = c .before .before .before .before .pre .1
+array-share-prefix-rights c = let (left, right) = c .before .before .before .before .pre in omega (arith, left, right)
 
 slice-aggregate-check-2 : tie.Need-slice-aggregate-check-2
-slice-aggregate-check-2 c = sym (length-take-le _ _ (c .before .before .before .before .before .pre .1))
+slice-aggregate-check-2 c = let (left, right) = c .before .before .before .before .before .pre in sym (length-take-le _ _ (omega (arith, left, right)))
 
 check-requires : tie.Need-check-requires
 check-requires c κs = search needs

@@ -29,8 +29,15 @@ compare-answer-requires c κs = search needs
 same-length : tie.Need-same-length
 same-length c = search needs
 
+-- the comparison is made, and before it the room to ask for
+abbrev compared : tie.After-compare-answer → tie.After-compare
+compared c = c .before .before .before .before .before .before .before
+
+abbrev asking : tie.After-compare → tie.After-asked
+asking c = c .before .before .before .before .before .before
+
 returns : tie.Need-returns
-returns c = finding (c .compare-answer .result) (c .compare-answer .ensures) (c .before .before .before .before .before .before .before .compare .ensures) (c .before .before .before .before .before .before .before .before .before .before .before .before .before .asked .ensures) refl refl refl refl
+returns c = finding (c .compare-answer .result) (c .compare-answer .ensures) (compared c .compare .ensures) (asking (compared c) .asked .ensures) refl refl refl refl
 
 pub find-spec : {M : Type 1} → statement M
 find-spec =

@@ -220,7 +220,7 @@ module _ {M : Type 1} (𝓤 : URA M) (H : Heap 𝓤) (A : Atoms 𝓤) (W : Given
           -- find
           move ! (13 ∷ 11 ∷ 1 ∷ 2 ∷ []) $ group ! 4 $ use1 W (raw (Find′ 𝓤 H A mem run .pre to-find)) goes-find $ calls-at ! fm (Find′ 𝓤 H A mem run) known-find to-find (and-then ! (load ! (from ! (stop !)) (look ! 43 refl)) (and-then ! (load ! (from ! (stop !)) (look ! 41 refl)) (and-then ! (load ! (from ! (stop !)) (look ! 39 refl)) (and-then ! (load ! (from ! (stop !)) (look ! 37 refl)) (and-then ! (load ! (from ! (stop !)) (look ! 35 refl)) (and-then ! (load ! (from ! (stop !)) (look ! 33 refl)) (and-then ! (load ! (from ! (stop !)) (look ! 31 refl)) (and-then ! (load ! (from ! (stop !)) (look ! 21 refl)) (and-then ! (load ! (from ! (stop !)) (look ! 17 refl)) (no-more !)))))))))) (λ v.
           use1 W (later (some (λ (r : Found). ((‵ (flft κ₀ q₀) ⊛ (‵ (flft κ₂ q₂) ⊛ ‵ ftrue)) ⊛ ‵ (F.the-row .own r (v ∷ []))) ⊛ raw (ensured 𝓤 H A find′.ended (find′.clauses 𝓤 H A mem run) (κ₀, (κ₂, tt)) (states, (letters, (finals, (rows, (x, (y, (room, (length (records .now), (sequence, tt))))))))) tt r)))) (id⊢ 𝓤 _) $ await ! tt $ pick ! (λ r.
-          split ! $ move ! (1 ∷ []) $ use1 W (some (λ (ws-find : Unit {0} × (Unit {0} × (Unit {0} × (Unit {0} × (Unit {0} × (Unit {0} × (Unit {0} × (Unit {0} × ((List ℕ) × Unit {0}))))))))). ‵ (lasts find′.ended (κ₀, (κ₂, tt)) (states, (letters, (finals, (rows, (x, (y, (room, (length (records .now), (sequence, tt))))))))) ws-find) ⊛ raw (fact 𝓤 (Finds Q room (length (records .now)) (sequence .now) r (ws-find .1 .1 .1 .1 .1 .1 .1 .1 .0))))) (id⊢ 𝓤 _) $ pick ! (λ ws-find.
+          split ! $ move ! (1 ∷ []) $ use1 W (some (λ (ws-find : (Unit {0}) × ((Unit {0}) × ((Unit {0}) × ((Unit {0}) × ((Unit {0}) × ((Unit {0}) × ((Unit {0}) × ((Unit {0}) × ((List ℕ) × Unit {0}))))))))). ‵ (lasts find′.ended (κ₀, (κ₂, tt)) (states, (letters, (finals, (rows, (x, (y, (room, (length (records .now), (sequence, tt))))))))) ws-find) ⊛ raw (fact 𝓤 (Finds Q room (length (records .now)) (sequence .now) r (ws-find .1 .1 .1 .1 .1 .1 .1 .1 .0))))) (id⊢ 𝓤 _) $ pick ! (λ ws-find.
           split ! $ move ! (1 ∷ []) $ heard ! (Finds Q room (length (records .now)) (sequence .now) r (ws-find .1 .1 .1 .1 .1 .1 .1 .1 .0)) (λ found. fsplit ! $ move ! (1 ∷ []) $ fsplit ! $ move ! (1 ∷ []) $
           fsplit ! $ move ! (1 ∷ []) $ fsplit ! $ move ! (1 ∷ []) $ fsplit ! $ move ! (1 ∷ []) $ fsplit ! $ move ! (1 ∷ []) $ fsplit ! $ move ! (1 ∷ []) $ fsplit ! $ move ! (1 ∷ []) $ fsplit ! $ fsplit ! $
           move ! (1 ∷ []) $ feqL ! (λ long-sequence. move ! (10 ∷ []) $ split ! $ split ! $ move ! (1 ∷ []) $ split ! $ move ! (1 ∷ []) $ drop ! $ move ! (2 ∷ []) $ peeks ! F.the-row (Is F.the-row) (shows 𝓤 H A F.the-row) r (v ∷ []) (λ is.
@@ -234,7 +234,7 @@ module _ {M : Type 1} (𝓤 : URA M) (H : Heap 𝓤) (A : Atoms 𝓤) (W : Given
           -- fill
           move ! (23 ∷ 16 ∷ []) $ group ! 2 $ use1 W (raw (Fill′ 𝓤 H A mem run .pre (to-fill r v k))) (goes-fill r v k is (is₁ .1) (kept-within (length (records .now)) r k found kept)) $ calls-at ! fm (Fill′ 𝓤 H A mem run) known-fill (to-fill r v k) (and-then ! (load ! (from ! (stop !)) (look ! 37 refl)) (and-then ! (load ! (from ! (stop !)) (look ! 35 refl)) (and-then ! (load ! (from ! (stop !)) (look ! 23 refl)) (no-more !)))) (λ v₂.
           use1 W (later (some (λ (u : Unit {0}). ((‵ (flft κ₁ q₁) ⊛ ‵ ftrue) ⊛ ‵ (unit .own u (v₂ ∷ []))) ⊛ raw (ensured 𝓤 H A fill′.ended (fill′.clauses 𝓤 H A mem run) (κ₁, tt) (r, (k, (records, tt))) tt u)))) (id⊢ 𝓤 _) $ await ! tt $ pick ! (λ u.
-          split ! $ move ! (1 ∷ []) $ use1 W (some (λ (ws-fill : Unit {0} × (Unit {0} × ((List PbRecord) × Unit {0}))). ‵ (lasts fill′.ended (κ₁, tt) (r, (k, (records, tt))) ws-fill) ⊛ raw (fact 𝓤 (ws-fill .1 .1 .0 ≡ filled r (records .now) k)))) (id⊢ 𝓤 _) $ pick ! (λ ws-fill.
+          split ! $ move ! (1 ∷ []) $ use1 W (some (λ (ws-fill : (Unit {0}) × ((Unit {0}) × ((List PbRecord) × Unit {0}))). ‵ (lasts fill′.ended (κ₁, tt) (r, (k, (records, tt))) ws-fill) ⊛ raw (fact 𝓤 (ws-fill .1 .1 .0 ≡ filled r (records .now) k)))) (id⊢ 𝓤 _) $ pick ! (λ ws-fill.
           split ! $ move ! (1 ∷ []) $ heard ! (ws-fill .1 .1 .0 ≡ filled r (records .now) k) (λ wrote. fsplit ! $ move ! (1 ∷ []) $ fsplit ! $ move ! (1 ∷ []) $ fsplit ! $ fsplit ! $ move ! (1 ∷ []) $
           feqL ! (λ long-records. move ! (4 ∷ []) $ split ! $ split ! $ move ! (1 ∷ []) $ drop ! $ move ! (1 ∷ []) $ peeks ! unit (Is unit) (shows 𝓤 H A unit) u (v₂ ∷ []) (λ is₂. land ! (from ! (stop !)) (init ! 32 refl (nothing-lawful 𝓤 H A W .typed u _ is₂ .0)) $
           -- compared_in

@@ -185,7 +185,7 @@ module _ {M : Type 1} (𝓤 : URA M) (H : Heap 𝓤) (A : Atoms 𝓤) (W : Given
           -- pb_compare
           move ! (13 ∷ 12 ∷ 11 ∷ 1 ∷ 5 ∷ 3 ∷ []) $ group ! 6 $ use1 W (raw (PbCompare′ 𝓤 H A mem run .pre (to-pb-compare room))) (goes-pb-compare room (is .1)) $ calls-at ! fm (PbCompare′ 𝓤 H A mem run) known-pb-compare (to-pb-compare room) (and-then ! (load ! (from ! (stop !)) (look ! 33 refl)) (and-then ! (load ! (from ! (stop !)) (look ! 31 refl)) (and-then ! (load ! (from ! (stop !)) (look ! 29 refl)) (and-then ! (load ! (from ! (stop !)) (look ! 27 refl)) (and-then ! (load ! (from ! (stop !)) (look ! 25 refl)) (and-then ! (load ! (from ! (stop !)) (look ! 23 refl)) (and-then ! (load ! (from ! (stop !)) (look ! 17 refl)) (and-then ! (load ! (from ! (stop !)) (look ! 13 refl)) (and-then ! (load ! (from ! (stop !)) (look ! 9 refl)) (no-more !)))))))))) (λ v₁.
           use1 W (later (some (λ (z : PbCompared). ((‵ (flft κ₀ q₀) ⊛ (‵ (flft κ₁ q₁) ⊛ (‵ (flft κ₂ q₂) ⊛ ‵ ftrue))) ⊛ ‵ (E.the-row .own z (v₁ ∷ []))) ⊛ raw (ensured 𝓤 H A pb-compare′.ended (pb-compare′.clauses 𝓤 H A mem run) (κ₀, (κ₁, (κ₂, tt))) (states, (letters, (finals, (rows, (x, (y, (room, (records, (sequence, tt))))))))) tt z)))) (id⊢ 𝓤 _) $ await ! tt $ pick ! (λ z.
-          split ! $ move ! (1 ∷ []) $ use1 W (some (λ (ws-pb-compare : Unit {0} × (Unit {0} × (Unit {0} × (Unit {0} × (Unit {0} × (Unit {0} × (Unit {0} × ((List PbRecord) × ((List ℕ) × Unit {0}))))))))). ‵ (lasts pb-compare′.ended (κ₀, (κ₁, (κ₂, tt))) (states, (letters, (finals, (rows, (x, (y, (room, (records, (sequence, tt))))))))) ws-pb-compare) ⊛ raw (fact 𝓤 (Enters Q room (records .now) (sequence .now) z (ws-pb-compare .1 .1 .1 .1 .1 .1 .1 .0) (ws-pb-compare .1 .1 .1 .1 .1 .1 .1 .1 .0))))) (id⊢ 𝓤 _) $ pick ! (λ ws-pb-compare.
+          split ! $ move ! (1 ∷ []) $ use1 W (some (λ (ws-pb-compare : (Unit {0}) × ((Unit {0}) × ((Unit {0}) × ((Unit {0}) × ((Unit {0}) × ((Unit {0}) × ((Unit {0}) × ((List PbRecord) × ((List ℕ) × Unit {0}))))))))). ‵ (lasts pb-compare′.ended (κ₀, (κ₁, (κ₂, tt))) (states, (letters, (finals, (rows, (x, (y, (room, (records, (sequence, tt))))))))) ws-pb-compare) ⊛ raw (fact 𝓤 (Enters Q room (records .now) (sequence .now) z (ws-pb-compare .1 .1 .1 .1 .1 .1 .1 .0) (ws-pb-compare .1 .1 .1 .1 .1 .1 .1 .1 .0))))) (id⊢ 𝓤 _) $ pick ! (λ ws-pb-compare.
           split ! $ move ! (1 ∷ []) $ heard ! (Enters Q room (records .now) (sequence .now) z (ws-pb-compare .1 .1 .1 .1 .1 .1 .1 .0) (ws-pb-compare .1 .1 .1 .1 .1 .1 .1 .1 .0)) (λ entered. fsplit ! $
           move ! (1 ∷ []) $ fsplit ! $ move ! (1 ∷ []) $ fsplit ! $ move ! (1 ∷ []) $ fsplit ! $ move ! (1 ∷ []) $ fsplit ! $ move ! (1 ∷ []) $ fsplit ! $ move ! (1 ∷ []) $ fsplit ! $ move ! (1 ∷ []) $ fsplit ! $
           move ! (1 ∷ []) $ fsplit ! $ move ! (2 ∷ []) $ fsplit ! $ move ! (1 ∷ []) $ feqL ! (λ long-records. move ! (1 ∷ []) $ fsplit ! $ move ! (1 ∷ []) $ feqL ! (λ long-sequence. move ! (10 ∷ []) $ split ! $
