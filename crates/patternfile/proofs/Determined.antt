@@ -19,7 +19,7 @@ use Rattle.patternfile.specs.Writer.{Writes}
 
 -- ---- the numbers of a file say which pattern it is
 
-same-rows : (rows rows′ : List ℕ) (x y x′ y′ : ℕ) → length rows ≡ length rows′ → rows ++ (x ∷ y ∷ []) ≡ rows′ ++ (x′ ∷ y′ ∷ []) → (rows ≡ rows′) × (x ∷ y ∷ [] ≡ x′ ∷ y′ ∷ [])
+pub same-rows : (rows rows′ : List ℕ) (x y x′ y′ : ℕ) → length rows ≡ length rows′ → rows ++ (x ∷ y ∷ []) ≡ rows′ ++ (x′ ∷ y′ ∷ []) → (rows ≡ rows′) × (x ∷ y ∷ [] ≡ x′ ∷ y′ ∷ [])
 same-rows rows rows′ x y x′ y′ l e = (
   sym (take-append-seam rows (x ∷ y ∷ [])) ∙ ap (take (length rows)) e ∙ take-at rows′ (x′ ∷ y′ ∷ []) (length rows) (sym l),
   sym (drop-append-seam rows (x ∷ y ∷ [])) ∙ ap (drop (length rows)) e ∙ drop-at rows′ (x′ ∷ y′ ∷ []) (length rows) (sym l),

@@ -51,7 +51,7 @@ read-after-write P x y out count out′ w old r new enough q =
 
 -- ---- what the reader left
 
-left-rows : {s old : List ℕ} {n k f x y : ℕ} {new : List ℕ} → AreBytes s → (d : ReadDone s old n k f x y new) → take (n * k) new ≡ d .rows
+pub left-rows : {s old : List ℕ} {n k f x y : ℕ} {new : List ℕ} → AreBytes s → (d : ReadDone s old n k f x y new) → take (n * k) new ≡ d .rows
 left-rows {old = old} {n = n} {k = k} are d =
     let c : Contents (length old) (patternOf n k _ (d .rows)) _ _ = accepted-valid are (d .file) in
     let h : 0 + length (d .rows) ≤ length old = omega (arith, c .enough, d .file .tabled) in

@@ -2,11 +2,11 @@
 use mathlib.Core.Path.{_≡_, refl, sym, ap, _∙_, subst}
 use mathlib.Core.List.{List, [], _∷_, _++_}
 use Prim.Native.Nat.{ℕ, _*_}
-use lib.ListN.{length, take, drop}
-use lib.Seq.{take-append-seam, drop-append-seam, take-at, drop-at}
+use lib.ListN.{length}
 use Rattle.numbers.specs.Format.{got, refused}
 use Rattle.numbers.proofs.Formats.{refused-got}
 use Rattle.patternfile.specs.PatternFile.{numbersOf}
+use Rattle.patternfile.proofs.Determined.{same-rows}
 use Rattle.walk.specs.Walk.{Question, Outcome, Walk}
 use Rattle.walk.specs.Answers.{Lent, defaultRoom, keptOf, wordOf, layOut}
 use Rattle.walk.proofs.WalkUnique.{walk-unique}
@@ -30,13 +30,9 @@ asks-one {input} {Q} {R} a b =
     let n : P .states ≡ S .states = cc in
     let k : P .letters ≡ S .letters = cc in
     let f : P .finals ≡ S .finals = cc in
-    let starts = Q .left ∷ Q .right ∷ [] in
-    let starts′ = R .left ∷ R .right ∷ [] in
-    let all : P .rows ++ starts ≡ S .rows ++ starts′ = cc in
-    let m : S .states * S .letters ≡ P .states * P .letters = rw (n, k) in
-    let size : length (S .rows) ≡ length (P .rows) = b .tabled ∙ m ∙ sym (a .tabled) in
-    let rows : P .rows ≡ S .rows = sym (take-append-seam (P .rows) starts) ∙ ap (take (length (P .rows))) all ∙ take-at (S .rows) starts′ (length (P .rows)) size in
-    let xy : starts ≡ starts′ = sym (drop-append-seam (P .rows) starts) ∙ ap (drop (length (P .rows))) all ∙ drop-at (S .rows) starts′ (length (P .rows)) size in
+    let all : P .rows ++ (Q .left ∷ Q .right ∷ []) ≡ S .rows ++ (R .left ∷ R .right ∷ []) = cc in
+    let m : P .states * P .letters ≡ S .states * S .letters = rw (n, k) in
+    let (rows, starts) = same-rows (P .rows) (S .rows) (Q .left) (Q .right) (R .left) (R .right) (a .tabled ∙ m ∙ sym (b .tabled)) all in
     let x : Q .left ≡ R .left = cc in
     let y : Q .right ≡ R .right = cc in
     question-path n k f rows x y

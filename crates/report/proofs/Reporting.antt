@@ -3,8 +3,8 @@ use mathlib.Core.Path.{_≡_, refl, sym, ap, _∙_, subst}
 use mathlib.Core.List.{List}
 use Prim.Native.Nat.{ℕ, _+_, _*_, _≤_}
 use native.Mathlib.Omega.{arith}
-use lib.ListN.{length, take, drop}
-use lib.Seq.{sets, sets-eq, take-at, length-take-le}
+use lib.ListN.{length, take}
+use lib.Seq.{sets, length-take-le}
 use Rattle.verdict.specs.declared.Verdict.the-variants.{Fine}
 use Rattle.pattern.specs.Pattern.{patternOf}
 use Rattle.numbers.specs.Numbers.{AreBytes}
@@ -12,6 +12,7 @@ use Rattle.patternfile.specs.declared.PatternRead.{PatternRead}
 use Rattle.patternfile.specs.declared.PatternRead.the-variants as Read
 use Rattle.patternfile.specs.Reader.{ReadDone, ReadRefused, Reads}
 use Rattle.patternfile.proofs.Contents.{Contents, accepted-valid}
+use Rattle.patternfile.proofs.RoundTrip.{left-rows}
 use Rattle.walk.specs.declared.Answer.{Answer}
 use Rattle.walk.specs.Walk.{Question, questionOf, Outcome, Walk}
 use Rattle.walk.specs.Answers.{Lent, Call, defaultRoom, answerOf, keptOf, wordOf, layOut, compareTest, Compared}
@@ -78,9 +79,7 @@ module _ {input rows : List ℕ} {n k f x y : ℕ} {new : List ℕ} (t : Accepte
 
   -- the rows are those of the file
   rows-read : take (n * k) new ≡ found
-  rows-read =
-      let h : 0 + length found ≤ length rows = omega (arith, few-rows, t .done .file .tabled) in
-      ap (take (n * k)) (t .done .written ∙ sets-eq found rows 0 h) ∙ take-at found (drop (0 + length found) rows) (n * k) (t .done .file .tabled)
+  rows-read = left-rows (t .bytes) (t .done)
 
   abbrev question : Question
   question = questionOf n k f (take (n * k) new) x y
