@@ -14,6 +14,105 @@ use reference::pattern::Pattern;
 use reference::questions::Question;
 use reference::walk::{Comparison, Record};
 
+/// What a comparison gives with the records and the sequence bytes that it wrote. All numbers are
+/// taken over as they come, on a refusal too.
+fn comparison(found: PbCompared, records: Vec<Record>, sequence: &Lent<u8>) -> Comparison {
+    Comparison {
+        answer: u64::from(found.answer),
+        kept: found.kept as u64,
+        examined: found.examined as u64,
+        length: found.length as u64,
+        records,
+        sequence: sequence.written(0..found.length).to_vec(),
+    }
+}
+
+/// The fields of a record, from its bytes.
+fn record([left, right, rest]: RecordBytes) -> Record {
+    Record {
+        left,
+        right,
+        parent: rest & 0xffff,
+        letter: rest >> 16 & 0xff,
+    }
+}
+
+/// How long the records and the sequence lent to a comparison are.
+#[derive(Clone, Copy, Debug, PartialEq, Eq)]
+pub struct Lengths {
+    /// The records.
+    pub records: usize,
+    /// The sequence bytes.
+    pub sequence: usize,
+}
+
+/// What a comparison in a room gives.
+pub fn compare(question: &Question, room: u64, lengths: Lengths) -> Comparison {
+    compared(question, lengths, |rows, records, sequence| {
+        host::compare(question, rows, room as usize, records, sequence)
+    })
+}
+
+/// What the comparison's short form gives.
+pub fn compare_default(question: &Question, lengths: Lengths) -> Comparison {
+    compared(question, lengths, |rows, records, sequence| {
+        host::compare_default(question, rows, records, sequence)
+    })
+}
+
+fn compared(
+    question: &Question,
+    lengths: Lengths,
+    call: impl FnOnce(&[u64], &mut [RecordBytes], &mut [u8]) -> PbCompared,
+) -> Comparison {
+    let rows = Lent::holding(&question.pattern.rows);
+    let mut records = Lent::blank(lengths.records);
+    let mut sequence = Lent::blank(lengths.sequence);
+    let found = call(rows.get(), records.get_mut(), sequence.get_mut());
+    rows.assert_unchanged();
+    let kept = records.written(0..found.kept);
+    comparison(found, kept.iter().copied().map(record).collect(), &sequence)
+}
+
+/// What a comparison in a room gives, with lists for left sets, right sets, parents and letters of
+/// the given lengths.
+pub fn compare_lists(
+    question: &Question,
+    room: u64,
+    lists: [usize; 4],
+    sequence: usize,
+) -> Comparison {
+    let rows = Lent::holding(&question.pattern.rows);
+    let [lefts, rights, parents, taken] = lists;
+    let (mut lefts, mut rights) = (Lent::blank(lefts), Lent::blank(rights));
+    let (mut parents, mut taken) = (Lent::blank(parents), Lent::blank(taken));
+    let mut sequence = Lent::blank(sequence);
+    let lists = Lists {
+        lefts: lefts.get_mut(),
+        rights: rights.get_mut(),
+        parents: parents.get_mut(),
+        taken: taken.get_mut(),
+    };
+    let found = host::compare_lists(
+        question,
+        rows.get(),
+        room as usize,
+        lists,
+        sequence.get_mut(),
+    );
+    rows.assert_unchanged();
+    let kept = 0..found.kept;
+    let (lefts, rights) = (lefts.written(kept.clone()), rights.written(kept.clone()));
+    let (parents, taken) = (parents.written(kept.clone()), taken.written(kept.clone()));
+    let record = |number: usize| Record {
+        left: lefts[number],
+        right: rights[number],
+        parent: u64::from(parents[number]),
+        letter: u64::from(taken[number]),
+    };
+    comparison(found, kept.map(record).collect(), &sequence)
+}
+
 /// The answer to one sequence judged from one set.
 pub fn judge(pattern: &Pattern, set: u64, sequence: &[u8]) -> u64 {
     let rows = Lent::holding(&pattern.rows);
@@ -173,103 +272,4 @@ pub fn write_number(length: usize, at: usize, value: u64) -> Result<Vec<u8>, u64
             Err(refusal)
         }
     }
-}
-
-/// What a comparison gives with the records and the sequence bytes that it wrote. All numbers are
-/// taken over as they come, on a refusal too.
-fn comparison(found: PbCompared, records: Vec<Record>, sequence: &Lent<u8>) -> Comparison {
-    Comparison {
-        answer: u64::from(found.answer),
-        kept: found.kept as u64,
-        examined: found.examined as u64,
-        length: found.length as u64,
-        records,
-        sequence: sequence.written(0..found.length).to_vec(),
-    }
-}
-
-/// The fields of a record, from its bytes.
-fn record([left, right, rest]: RecordBytes) -> Record {
-    Record {
-        left,
-        right,
-        parent: rest & 0xffff,
-        letter: rest >> 16 & 0xff,
-    }
-}
-
-/// How long the records and the sequence lent to a comparison are.
-#[derive(Clone, Copy, Debug, PartialEq, Eq)]
-pub struct Lengths {
-    /// The records.
-    pub records: usize,
-    /// The sequence bytes.
-    pub sequence: usize,
-}
-
-/// What a comparison in a room gives.
-pub fn compare(question: &Question, room: u64, lengths: Lengths) -> Comparison {
-    compared(question, lengths, |rows, records, sequence| {
-        host::compare(question, rows, room as usize, records, sequence)
-    })
-}
-
-/// What the comparison's short form gives.
-pub fn compare_default(question: &Question, lengths: Lengths) -> Comparison {
-    compared(question, lengths, |rows, records, sequence| {
-        host::compare_default(question, rows, records, sequence)
-    })
-}
-
-fn compared(
-    question: &Question,
-    lengths: Lengths,
-    call: impl FnOnce(&[u64], &mut [RecordBytes], &mut [u8]) -> PbCompared,
-) -> Comparison {
-    let rows = Lent::holding(&question.pattern.rows);
-    let mut records = Lent::blank(lengths.records);
-    let mut sequence = Lent::blank(lengths.sequence);
-    let found = call(rows.get(), records.get_mut(), sequence.get_mut());
-    rows.assert_unchanged();
-    let kept = records.written(0..found.kept);
-    comparison(found, kept.iter().copied().map(record).collect(), &sequence)
-}
-
-/// What a comparison in a room gives, with lists for left sets, right sets, parents and letters of
-/// the given lengths.
-pub fn compare_lists(
-    question: &Question,
-    room: u64,
-    lists: [usize; 4],
-    sequence: usize,
-) -> Comparison {
-    let rows = Lent::holding(&question.pattern.rows);
-    let [lefts, rights, parents, taken] = lists;
-    let (mut lefts, mut rights) = (Lent::blank(lefts), Lent::blank(rights));
-    let (mut parents, mut taken) = (Lent::blank(parents), Lent::blank(taken));
-    let mut sequence = Lent::blank(sequence);
-    let lists = Lists {
-        lefts: lefts.get_mut(),
-        rights: rights.get_mut(),
-        parents: parents.get_mut(),
-        taken: taken.get_mut(),
-    };
-    let found = host::compare_lists(
-        question,
-        rows.get(),
-        room as usize,
-        lists,
-        sequence.get_mut(),
-    );
-    rows.assert_unchanged();
-    let kept = 0..found.kept;
-    let (lefts, rights) = (lefts.written(kept.clone()), rights.written(kept.clone()));
-    let (parents, taken) = (parents.written(kept.clone()), taken.written(kept.clone()));
-    let record = |number: usize| Record {
-        left: lefts[number],
-        right: rights[number],
-        parent: u64::from(parents[number]),
-        letter: u64::from(taken[number]),
-    };
-    comparison(found, kept.map(record).collect(), &sequence)
 }
