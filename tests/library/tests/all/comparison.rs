@@ -16,7 +16,8 @@ pub fn assert_compared(question: &Question, room: u64, lengths: Lengths) -> Comp
     let wanted = compare(pattern, *x, *y, room, &[records as u64], sequence as u64);
     let found = calls::compare(question, room, lengths);
     assert_eq!(found, wanted, "room {room}, {lengths:?}, {question:?}");
-    assert_lists(question, room, [records; 4], sequence);
+    let by_columns = calls::compare_lists(question, room, [records; 4], sequence);
+    assert_eq!(by_columns, wanted, "room {room}, {lengths:?}, {question:?}");
     found
 }
 
