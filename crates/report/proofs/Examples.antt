@@ -9,9 +9,8 @@ use Rattle.numbers.specs.Numbers.{byteTest, groups, numberAt}
 use Rattle.numbers.specs.Format.{many, reading, fileReading}
 use Rattle.patternfile.specs.PatternFile.{roomTest, patternFormat}
 use Rattle.patternfile.proofs.Examples.{no-bytes}
-use Rattle.walk.specs.Walk.{Walk}
 use Rattle.walk.specs.Walk.Outcome.{Same, Different, Full}
-use Rattle.walk.specs.Known.{A, pair, Row, Known}
+use Rattle.walk.specs.Known.{A, pair, Row, Holds, Known}
 use Rattle.walk.specs.Known.Known.{row}
 use Rattle.walk.proofs.MoreRoom.{more-room}
 use Rattle.walk.proofs.KnownAnswers.{known-answers}
@@ -52,8 +51,8 @@ asks-a : Asks pattern-a (A 1 4)
 unfolding fileReading patternFormat reading many numberAt groups byteTest sizeTest setTest roomTest inOrder need
 asks-a = record { tabled = refl; read = refl }
 
-first-known : {r : Row} {rows : List Row} → Known (r ∷ rows) → Walk (r .question) (r .room) (r .outcome)
-first-known (row w known) = w
+first-known : {r : Row} {rows : List Row} → Known (r ∷ rows) → Holds r
+first-known (row h known) = h
 
 pub first-answer : Prints pattern-a (word "DIFFERENT 1 2 1\nREAD\n")
 unfolding textOf line joined spaced decimal digits eventName names

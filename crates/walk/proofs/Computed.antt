@@ -1,5 +1,5 @@
 -- A walk that computes: what it gives is the outcome of the walk. Assumes nothing.
-use mathlib.Core.Path.{_≡_, refl, sym}
+use mathlib.Core.Path.{_≡_, refl, sym, ap, _∙_, subst}
 use mathlib.Core.Bool.{Bool, true, false, _&&_, Bool·beq, true≢false, and-eq-true-iff}
 use mathlib.Core.List.{List, [], _∷_, _++_}
 use mathlib.Core.Option.{Option}
@@ -40,6 +40,9 @@ closed-by : (f : ℕ) (rs : List Record) (x : ℕ) → pass rs (passes f rs x) �
 closed-by f rs x e =
     let g = passes-grow f rs x in
     record { within = g .within; congruent = g .congruent; still = pass-closed rs (passes f rs x) e }
+
+pub closing-computed : (f : ℕ) (rs : List Record) (x c : ℕ) → passes f rs x ≡ c → pass rs c ≡ c → Closes (Listed (leftsOf rs) (rightsOf rs)) x c
+closing-computed f rs x c e s = subst (Closes (Listed (leftsOf rs) (rightsOf rs)) x) e (closed-by f rs x (ap (pass rs) e ∙ s ∙ sym e))
 
 -- ---- one candidate
 

@@ -1,7 +1,9 @@
--- Document 01's questions with known answers: the starred rows on the walk (the row on closing stands with congruence).
+-- Document 01's questions with known answers: the starred rows.
 use mathlib.Core.List.{List, [], _∷_}
 use Prim.Native.Nat.{ℕ}
-use Rattle.walk.specs.Walk.{Question, questionOf, Record, Outcome, Walk}
+use Rattle.congruence.specs.Congruence.{Listed}
+use Rattle.congruence.specs.Closing.{Closes}
+use Rattle.walk.specs.Walk.{Question, questionOf, Record, leftsOf, rightsOf, Outcome, Walk}
 use Rattle.walk.specs.Walk.Outcome.{Same, Different, Full}
 
 abbrev pub A : ℕ → ℕ → Question
@@ -16,13 +18,10 @@ C x y = questionOf 4 1 9 (3 ∷ 4 ∷ 0 ∷ 8 ∷ []) x y
 abbrev pub D : ℕ → ℕ → Question
 D x y = questionOf 2 2 2 (0 ∷ 2 ∷ 0 ∷ 0 ∷ []) x y
 
-pub record Row : Type 0 where
-  pub question : Question
-  pub room : ℕ
-  pub outcome : Outcome
-
-abbrev pub asks : Question → ℕ → Outcome → Row
-asks Q room o = record { question = Q; room = room; outcome = o }
+-- a question in a room, and the outcome of its walk; or a list of pairs, a set, and what it closes to
+pub data Row : Type 0 where
+  asks : Question → ℕ → Outcome → Row
+  closes : List Record → ℕ → ℕ → Row
 
 -- a kept record: left, right, parent, letter
 abbrev pub pair : ℕ → ℕ → ℕ → ℕ → Record
@@ -39,9 +38,15 @@ table =
     ∷ asks (B 1 8) 2 (Full (pair 1 8 0 0 ∷ pair 2 48 0 0 ∷ []) 3)
     ∷ asks (C 1 8) 3 (Same (pair 1 8 0 0 ∷ pair 3 8 0 0 ∷ pair 7 8 1 0 ∷ []) 4)
     ∷ asks (D 1 0) 1 (Different (pair 1 0 0 0 ∷ []) 3 (1 ∷ []))
+    ∷ closes (pair 2 4 0 0 ∷ pair 1 2 0 0 ∷ []) 1 7
+    ∷ closes (pair 2 4 0 0 ∷ pair 1 2 0 0 ∷ []) 4 7
     ∷ []
 
--- the walk of each row's question has the row's outcome
+abbrev pub Holds : Row → Type 0
+Holds (asks Q room o) = Walk Q room o
+Holds (closes pairs set closed) = Closes (Listed (leftsOf pairs) (rightsOf pairs)) set closed
+
+-- each row holds
 pub data Known : List Row → Type 0 where
   done : Known []
-  row : {r : Row} {rows : List Row} → Walk (r .question) (r .room) (r .outcome) → Known rows → Known (r ∷ rows)
+  row : {r : Row} {rows : List Row} → Holds r → Known rows → Known (r ∷ rows)
