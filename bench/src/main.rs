@@ -101,16 +101,15 @@ fn random_table() {
     println!("| 000, Table 1: 50 states, none final | | 21 | 26 | 32 | 63 |");
 }
 
-/// The walks that keep 2^s pairs: how the time of one grows with the pairs it keeps.
-fn growth_table() {
+/// How the time of one walk grows with the pairs it keeps, each question keeping twice as many as the one before.
+fn growth_table(questions: &[Question]) {
     println!("| kept pairs | examined | library / plain Rust | library's time over that of half the pairs |");
     println!("|---|---|---|---|");
     let mut before: Option<f64> = None;
-    for switches in 4..=10 {
-        let question = questions::switches(switches);
+    for question in questions {
         let mut lists = ByLists::new(ROOM);
-        let (_, kept, examined) = lists.compare(&question);
-        let (library, rust) = times(from_ref(&question), ROUNDS, |q| lists.compare(q), plain);
+        let (_, kept, examined) = lists.compare(question);
+        let (library, rust) = times(from_ref(question), ROUNDS, |q| lists.compare(q), plain);
         let growth = before.map_or(String::from("-"), |b| format!("{:.1}", library / b));
         println!("| {kept} | {examined} | {:.2} | {growth} |", library / rust);
         before = Some(library);
@@ -139,8 +138,9 @@ fn entry_table() {
 fn main() {
     match std::env::args().nth(1).as_deref() {
         Some("random") => random_table(),
-        Some("growth") => growth_table(),
+        Some("switches") => growth_table(&(4..=10).map(questions::switches).collect::<Vec<_>>()),
+        Some("long") => growth_table(&(4..=10).map(|s| questions::long_way(1 << s)).collect::<Vec<_>>()),
         Some("entry") => entry_table(),
-        _ => eprintln!("figures random | growth | entry"),
+        _ => eprintln!("figures random | switches | long | entry"),
     }
 }

@@ -8,8 +8,14 @@ use std::time::Duration;
 
 /// The program as `rt check` linked it.
 fn program(name: &str) -> PathBuf {
-    let path = PathBuf::from(env!("CARGO_MANIFEST_DIR")).join("../../target/bin").join(name);
-    assert!(path.is_file(), "{} is not there: run `rt check {name}`", path.display());
+    let path = PathBuf::from(env!("CARGO_MANIFEST_DIR"))
+        .join("../../target/bin")
+        .join(name);
+    assert!(
+        path.is_file(),
+        "{} is not there: run `rt check {name}`",
+        path.display()
+    );
     path
 }
 
@@ -30,7 +36,9 @@ pub fn written_for_pieces(name: &str, pieces: &[&[u8]], pause: Duration) -> Vec<
     let mut output = child.stdout.take().expect("its output is a pipe");
     let reader = thread::spawn(move || {
         let mut written = Vec::new();
-        output.read_to_end(&mut written).expect("its output is read");
+        output
+            .read_to_end(&mut written)
+            .expect("its output is read");
         written
     });
     for piece in pieces {

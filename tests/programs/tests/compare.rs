@@ -12,7 +12,12 @@ use std::path::Path;
 use std::time::Duration;
 
 fn bytes_of(question: &Question) -> Vec<u8> {
-    let written = file::write(&question.pattern, question.x, question.y, LONGEST_FILE as u64);
+    let written = file::write(
+        &question.pattern,
+        question.x,
+        question.y,
+        LONGEST_FILE as u64,
+    );
     assert_eq!(written.answer, answers::DONE);
     written.bytes
 }
@@ -54,7 +59,11 @@ fn damaged_files_are_refused_as_the_reference_does() {
         let states = random.between(1, 8);
         let letters = random.between(1, 4);
         let question = question(&mut random, states, letters);
-        holds(&damaged(&mut random, &question, DAMAGES[turn % DAMAGES.len()]));
+        holds(&damaged(
+            &mut random,
+            &question,
+            DAMAGES[turn % DAMAGES.len()],
+        ));
     }
 }
 
@@ -71,9 +80,15 @@ fn the_room_is_printed_to_its_end() {
 fn input_may_come_in_small_pieces() {
     let input = bytes_of(&switches(3));
     let pieces: Vec<&[u8]> = input.chunks(1).collect();
-    assert_eq!(written_for_pieces("compare", &pieces, Duration::from_millis(2)), report(&input));
+    assert_eq!(
+        written_for_pieces("compare", &pieces, Duration::from_millis(2)),
+        report(&input)
+    );
     let pieces: Vec<&[u8]> = input.chunks(7).collect();
-    assert_eq!(written_for_pieces("compare", &pieces, Duration::from_millis(5)), report(&input));
+    assert_eq!(
+        written_for_pieces("compare", &pieces, Duration::from_millis(5)),
+        report(&input)
+    );
 }
 
 /// Catches a program that waits for input, or answers at all, where there is none.
@@ -110,9 +125,13 @@ fn the_examples_are_answered_as_their_page_says() {
     let folder = Path::new(env!("CARGO_MANIFEST_DIR")).join("../../examples");
     let page = fs::read_to_string(folder.join("README.md")).expect("the page is there");
     for name in ["first-answer", "stable-gravity", "recent-drop", "checklist"] {
-        let input = fs::read(folder.join(name).with_extension("pattern")).expect("the example is there");
+        let input =
+            fs::read(folder.join(name).with_extension("pattern")).expect("the example is there");
         let written = String::from_utf8(written_for("compare", &input)).expect("it is text");
-        assert!(page.contains(&format!("```\n{written}```")), "{name}: {written}");
+        assert!(
+            page.contains(&format!("```\n{written}```")),
+            "{name}: {written}"
+        );
         holds(&input);
     }
 }

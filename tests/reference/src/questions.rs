@@ -190,3 +190,44 @@ pub fn switches(count: u64) -> Question {
         y: 1 << lone,
     }
 }
+
+/// The most letters of the family below: X is back where it was only after 1386 steps.
+pub const LONG_WAY_MOST: u64 = 1024;
+
+/// A question that is DIFFERENT only after so many letters, 1 to 1024, where the walk
+/// has kept as many records.
+///
+/// By letter 9 X goes into three rings of 14, 18 and 22 states at once, and Y into
+/// one of two states. From there even steps are by letter 5 and odd ones by letter
+/// 17, and X is back where it was after 1386 of them; every other letter leads
+/// nowhere from both. All states are final but the three that X is in after the
+/// last letter. No set that X is in lies within another, so every pair is kept.
+pub fn long_way(letters: u64) -> Question {
+    let steps = letters.clamp(1, LONG_WAY_MOST) - 1;
+    let mut way = Question {
+        pattern: Pattern {
+            letters: 32,
+            ..Pattern::default()
+        },
+        ..Question::default()
+    };
+    for (ring, of_x) in [(14, true), (18, true), (22, true), (2, false)] {
+        let start = way.pattern.states;
+        let first = start + 1;
+        let mut add = |letter: usize, to: u64, is_final: bool| {
+            let mut rows = [0; 32];
+            rows[letter] = 1 << to;
+            way.pattern.rows.extend(rows);
+            way.pattern.finals |= u64::from(is_final) << way.pattern.states;
+            way.pattern.states += 1;
+        };
+        add(9, first, true);
+        for step in 0..ring {
+            let letter = if step % 2 == 0 { 5 } else { 17 };
+            let is_final = !of_x || step != steps % ring;
+            add(letter, first + (step + 1) % ring, is_final);
+        }
+        *(if of_x { &mut way.x } else { &mut way.y }) |= 1 << start;
+    }
+    way
+}

@@ -4,8 +4,7 @@ use crate::draw::{all_lists, pattern, small_question};
 use library::calls::{self, Lengths};
 use library::{cases, rounds::rounds};
 use reference::answers::*;
-use reference::pattern::Pattern;
-use reference::questions::{figure_five, renamed_copy, switches, Question};
+use reference::questions::{figure_five, long_way, renamed_copy, switches, Question};
 use reference::random::Random;
 use reference::walk::{compare, compare_default, Comparison, Record, MAX_ROOM};
 
@@ -121,47 +120,10 @@ fn different_may_come_with_a_full_list() {
     assert!(seen > 1000, "{seen}");
 }
 
-/// A question that is DIFFERENT only after 1024 letters.
-///
-/// By letter 9 X goes into three rings of 14, 18 and 22 states at once, and Y into
-/// one of two states. From there even steps are by letter 5 and odd ones by letter
-/// 17, and X is back where it was after 1386 of them; every other letter leads
-/// nowhere from both. All states are final but the three that X is in after 1024
-/// letters. No set that X is in lies within another, so every pair is kept.
-fn long_way() -> Question {
-    const STEPS: u64 = 1023;
-    let mut way = Question {
-        pattern: Pattern {
-            letters: 32,
-            ..Pattern::default()
-        },
-        ..Question::default()
-    };
-    for (ring, of_x) in [(14, true), (18, true), (22, true), (2, false)] {
-        let start = way.pattern.states;
-        let first = start + 1;
-        let mut add = |letter: usize, to: u64, is_final: bool| {
-            let mut rows = [0; 32];
-            rows[letter] = 1 << to;
-            way.pattern.rows.extend(rows);
-            way.pattern.finals |= u64::from(is_final) << way.pattern.states;
-            way.pattern.states += 1;
-        };
-        add(9, first, true);
-        for step in 0..ring {
-            let letter = if step % 2 == 0 { 5 } else { 17 };
-            let is_final = !of_x || step != STEPS % ring;
-            add(letter, first + (step + 1) % ring, is_final);
-        }
-        *(if of_x { &mut way.x } else { &mut way.y }) |= 1 << start;
-    }
-    way
-}
-
 /// Catches a parent or a length held in too few bits, and a sequence written backwards.
 #[test]
 fn a_sequence_may_have_1024_letters() {
-    let question = long_way();
+    let question = long_way(1024);
     let found = compared(&question, MAX_ROOM);
     let numbers = [found.answer, found.kept, found.length];
     assert_eq!(numbers, [DIFFERENT, 1024, 1024]);
@@ -257,7 +219,7 @@ fn room_0_needs_nothing_lent() {
 #[test]
 fn the_short_form_takes_room_1024() {
     let table = [0, 1, 256, 1023, 1024, 1025, 2000];
-    for question in [figure_five(7), switches(10), switches(11), long_way()] {
+    for question in [figure_five(7), switches(10), switches(11), long_way(1024)] {
         let Question { pattern, x, y } = &question;
         for records in table {
             for sequence in table {

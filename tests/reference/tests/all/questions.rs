@@ -1,8 +1,10 @@
 //! The sources of random questions: what they promise about what they draw.
 
+use reference::answers::DIFFERENT;
 use reference::pattern::check;
-use reference::questions::{pattern, question, renamed_copy, Finals, Question, FINALS};
+use reference::questions::{long_way, pattern, question, renamed_copy, Finals, Question, FINALS};
 use reference::random::Random;
+use reference::walk::{compare, Comparison};
 
 /// Catches a source that draws a pattern which the calls refuse, at any size.
 #[test]
@@ -84,4 +86,19 @@ fn a_random_order_has_every_state_once() {
         assert!(order.into_iter().eq(0..states));
     }
     assert!(moved > 1000, "only {moved} states were moved");
+}
+
+/// Catches a long way that differs sooner or later than it says, or keeps fewer records.
+#[test]
+fn a_long_way_differs_after_as_many_letters_as_it_says() {
+    for letters in [1, 2, 3, 14, 64, 127, 1024] {
+        let Question { pattern, x, y } = long_way(letters);
+        let Comparison {
+            answer,
+            kept,
+            length,
+            ..
+        } = compare(&pattern, x, y, letters, &[letters], letters);
+        assert_eq!([answer, kept, length], [DIFFERENT, letters, letters]);
+    }
 }
