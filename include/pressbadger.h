@@ -120,7 +120,7 @@ pb_compared pb_compare(size_t states, size_t letters, uint64_t finals,
                        pb_record *records, size_t records_count,
                        uint8_t *sequence, size_t sequence_count);
 
-/* The same with room PB_DEFAULT_ROOM: lends fewer records or sequence bytes than that are refused. */
+/* The same with room PB_DEFAULT_ROOM: fewer records or sequence bytes than that are refused with 13. */
 pb_compared pb_compare_default(size_t states, size_t letters, uint64_t finals,
                                const uint64_t *rows, size_t rows_count,
                                uint64_t x, uint64_t y,
