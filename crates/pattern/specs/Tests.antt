@@ -20,6 +20,10 @@ tableTest n k count = need (eqb count (n * k)) 11
 unfoldable pub setTest : ℕ → ℕ → Verdict
 setTest n mask = need (ltb mask (2 ^ n)) 12
 
+-- 14 NO-ROOM: a buffer of so many places has room for so many values
+unfoldable pub spaceTest : ℕ → ℕ → Verdict
+spaceTest places count = need (leb count places) 14
+
 -- 10 and 11, which every call looks at first
 unfoldable pub shapeTest : Pattern → Verdict
 shapeTest P = inOrder (sizeTest 64 (P .states) ∷ sizeTest 32 (P .letters) ∷ tableTest (P .states) (P .letters) (length (P .rows)) ∷ [])

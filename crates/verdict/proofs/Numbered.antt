@@ -1,0 +1,37 @@
+-- By which numbers a verdict can refuse: one test, tests in order, a test of each value. Assumes nothing.
+use mathlib.Core.Path.{_≡_, refl, sym, _∙_}
+use mathlib.Core.Bool.{Bool, true, false}
+use mathlib.Core.List.{List, [], _∷_, map, List·Memᴰ}
+use Prim.Native.Nat.{ℕ}
+use Rattle.verdict.specs.declared.Verdict.{Verdict}
+use Rattle.verdict.specs.declared.Verdict.the-variants.{Fine, Against}
+use Rattle.verdict.specs.Tests.{need, inOrder, each, Among}
+use Rattle.verdict.proofs.Ordered.{apart, one-number}
+
+-- each of the verdicts refuses only by these numbers
+pub data AllAmong (numbers : List ℕ) : List Verdict → Type 0 where
+  none : AllAmong numbers []
+  more : {v : Verdict} {tests : List Verdict} → Among numbers v → AllAmong numbers tests → AllAmong numbers (v ∷ tests)
+
+module _ (numbers : List ℕ) where
+  pub among-fine : Among numbers Fine
+  among-fine = record { among = λ w e. apart refl e }
+
+  pub among-need : (b : Bool) (w : ℕ) → List·Memᴰ w numbers → Among numbers (need b w)
+  unfolding need
+  among-need true w m = among-fine
+  among-need false w m = record { among = λ u e. let z : w ≡ u = one-number {v = Against w} refl e in rw z at m }
+
+  pub among-order : {tests : List Verdict} → AllAmong numbers tests → Among numbers (inOrder tests)
+  unfolding inOrder
+  among-order none = among-fine
+  among-order (more {v = Fine} h hs) = among-order hs
+  among-order (more {v = Against w} h hs) = h
+
+  pub among-each : (test : ℕ → Verdict) → ((x : ℕ) → Among numbers (test x)) → (xs : List ℕ) → Among numbers (each test xs)
+  unfolding each
+  among-each test f xs = among-order (all xs)
+    where
+      all : (xs : List ℕ) → AllAmong numbers (map test xs)
+      all [] = none
+      all (x ∷ xs) = more (f x) (all xs)
