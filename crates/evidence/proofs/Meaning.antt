@@ -9,7 +9,8 @@ use Rattle.pattern.specs.Pattern.{Pattern}
 use Rattle.pattern.specs.Language.{SameLanguage}
 use Rattle.congruence.specs.Congruence.{Congruent, Listed}
 use Rattle.congruence.specs.Congruence.Congruent.{given}
-use Rattle.congruence.proofs.UpTo.{Progress, up-to-congruence}
+use Rattle.congruence.specs.Progress.{Progress}
+use Rattle.congruence.proofs.UpTo.{up-to-congruence}
 use Rattle.evidence.specs.Evidence.{Offer, Starts, Holds, HoldsAt, HoldBelow, Checked}
 use Rattle.evidence.specs.Evidence.Checked.{not-started, started}
 use Rattle.evidence.specs.Evidence.ByPairs.{all-hold, fails}
@@ -21,10 +22,7 @@ starts-congruent s = given s
 
 -- a list whose pairs all hold is a bisimulation up to congruence
 list-progress : {P : Pattern} {lefts rights : List ℕ} → HoldBelow P lefts rights (length lefts) → Progress P (Listed lefts rights)
-list-progress {P} {lefts} {rights} f = record { agree = λ a b r. at r .agrees; steps = λ a b x l r. at r .steps x l }
-  where
-    at : {a b : ℕ} → Listed lefts rights a b → Holds P lefts rights a b
-    at r = rw (← r .left, ← r .right) (f (r .at) (r .below))
+list-progress {P} {lefts} {rights} f = record { each = λ a b r. rw (← r .left, ← r .right) (f (r .at) (r .below)) }
 
 -- whoever wrote the list: PROVED, and the languages are equal
 pub evidence-means-same : {o : Offer} → Checked o Proved → SameLanguage (o .pattern) (o .x) (o .y)

@@ -1,7 +1,7 @@
 -- Evidence: somebody offers a list of pairs to show that X and Y have one language. Whoever wrote it, PROVED means that they have (`evidence-means-same`).
 --   Offer        what is offered: a pattern, X and Y, and the two sides of the list
 --   Starts       the starting pair is in order: (X, Y) itself is a listed pair, in that order
---   Holds        a pair agrees on the empty sequence and has, for each letter, successors congruent by the list
+--   Holds        a pair agrees on the empty sequence and has, for each letter, successors congruent by the list: it progresses
 --   HoldsAt i    pair i of the list holds; HoldBelow i: pairs 0 to i - 1 do
 --   checkTest    what is refused, in the order 10, 11, 16, 12
 --   ValidOffer   an offer that is not refused (`offer-valid`)
@@ -19,8 +19,8 @@ use Rattle.verdict.specs.Tests.{need, inOrder, each}
 use Rattle.sets.specs.Sets.{Good}
 use Rattle.pattern.specs.Pattern.{Pattern, patternOf, Valid}
 use Rattle.pattern.specs.Tests.{shapeTest, masksTest, setTest}
-use Rattle.pattern.specs.Language.{next, accepts}
-use Rattle.congruence.specs.Congruence.{Congruent, Listed}
+use Rattle.congruence.specs.Congruence.{Listed}
+use Rattle.congruence.specs.Progress.{Progresses}
 use Rattle.evidence.specs.declared.Answer.{Answer}
 use Rattle.evidence.specs.declared.Answer.the-variants.{Proved, NotProved, Refused}
 
@@ -39,9 +39,8 @@ offerOf n k finals rows x y lefts rights = record { pattern = patternOf n k fina
 abbrev pub Starts : List ℕ → List ℕ → ℕ → ℕ → Type 0
 Starts lefts rights x y = Listed lefts rights x y
 
-pub record Holds (P : Pattern) (lefts rights : List ℕ) (a b : ℕ) : Type 0 where
-  pub agrees : accepts P a [] ≡ accepts P b []
-  pub steps : (letter : ℕ) → letter < P .letters → Congruent (Listed lefts rights) (next P a letter) (next P b letter)
+abbrev pub Holds : Pattern → List ℕ → List ℕ → ℕ → ℕ → Type 0
+Holds P lefts rights a b = Progresses P (Listed lefts rights) a b
 
 abbrev pub HoldsAt : Pattern → List ℕ → List ℕ → ℕ → Type 0
 HoldsAt P lefts rights i = Holds P lefts rights (getD lefts i 0) (getD rights i 0)
