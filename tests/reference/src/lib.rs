@@ -2,7 +2,7 @@
 //!
 //! In reading order: the rules themselves (`answers` to `report`), then an
 //! independent judge of equivalence (`subsets`), then what tests draw their
-//! questions from (`random`, `questions`, `damage`).
+//! questions from (`random`, `questions`, `damage`) and how much they run (`rounds`).
 //!
 //! Nothing here is proved and nothing is made fast. Every function is total:
 //! whatever numbers come in, an answer goes out.
@@ -29,3 +29,4 @@ pub mod subsets;
 pub mod damage;
 pub mod questions;
 pub mod random;
+pub mod rounds;

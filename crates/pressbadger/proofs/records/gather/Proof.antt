@@ -1,5 +1,5 @@
--- `pressbadger::records::gather` meets its contract: a walk of its code, with a loop. The two arrays are taken apart into their elements before the loop and put together after it.
--- Written by tools/walks; what it says is checked by the prover.
+-- `pressbadger::records::gather` meets its contract, proved by hand along its code, which has a loop. The two arrays are taken apart into their elements before the loop and put together after it.
+-- Written out by `python3 tools/byhand/write.py gather`; what it says is checked by the prover.
 use mathlib.Core.Path.{_≡_, refl, sym, _∙_, ap, subst}
 use mathlib.Core.Bool.{Bool, true, false}
 use Prim.Native.Nat.{ℕ, zero, suc, _<_, _≤_, _^_, _*_, _+_}

@@ -1,5 +1,5 @@
--- `pressbadger::records::pb_compare` meets its contract: a walk of its code, which calls four functions and looks into nothing.
--- Written by tools/walks; what it says is checked by the prover.
+-- `pressbadger::records::pb_compare` meets its contract, proved by hand: its code calls four functions and looks into nothing.
+-- Written out by `python3 tools/byhand/write.py pb_compare`; what it says is checked by the prover.
 use mathlib.Core.Path.{_≡_, refl, ap, subst}
 use Prim.Native.Nat.{ℕ, _<_, _≤_, _^_}
 use mathlib.Core.List.{[], _∷_, List}

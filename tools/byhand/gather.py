@@ -124,7 +124,7 @@ c.say('pass1 ! (init ! %d refl (tt, record { fits = n-fits })) $ pass0 ! $' % c.
 before = list(c.c)
 ls = ' '.join(l(k) for k in range(NL))
 c.say('by ! (first 𝓣 known-zeros %s)' % ls + ')' * NL)
-walk = c.text(6)
+enters = c.text(6)
 
 # ---- the body up to the loop
 c = Ctx(before)
@@ -190,7 +190,7 @@ def at_first(n):
 
 
 text = open(os.path.join(os.path.dirname(os.path.abspath(__file__)), 'gather.txt')).read()
-for a, b in [('@EXITS@', exits), ('@MORE@', more), ('@ENDS@', ends), ('@WALK@', walk), ('@FIRST@', first), ('@LS@', ls),
+for a, b in [('@EXITS@', exits), ('@MORE@', more), ('@ENDS@', ends), ('@ENTERS@', enters), ('@FIRST@', first), ('@LS@', ls),
              ('@EN@', items('(%s, %s)' % (t, l(k)) for k, t in enumerate(tys))), ('@AT@', items('‵ (%s)' % item[n] for n in loop)),
              ('@BEFORE@', items(at_first(n) for n in before)), ('@LOCALS@', items('local %s %s' % x for x in zip(tys, homes)))]:
     text = text.replace(a, b)

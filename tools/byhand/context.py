@@ -1,13 +1,8 @@
-# `python3 tools/walks/NAME.py` writes crates/pressbadger/proofs/records/NAME/Proof.antt, for each function NAME over a list of
-# records; `rt fmt` then lays the file out. The proofs are committed, and the prover checks them: nothing rests on these scripts.
-# Whoever changes the record, or the code of such a function, changes its script and writes the proof again.
-#
-# This file: the context of a walk, kept by name, so that the positions in a proof are computed and not counted.
-import os
+# The context of a proof by hand, kept by name, so that the positions in a proof are computed and not counted; and what every proof
+# here goes through before it is written: paths in place of names, and `use` lines cut to what is used.
 import re
+from places import WRITTEN, path
 
-ROOT = os.path.join(os.path.dirname(os.path.abspath(__file__)), '..', '..')
-PROOFS = os.path.join(ROOT, 'crates', 'pressbadger', 'proofs', 'records')
 SUB = str.maketrans('0123456789', '₀₁₂₃₄₅₆₇₈₉')
 
 
@@ -47,11 +42,14 @@ def prune(text):
     return '\n'.join(out)
 
 
+# the proofs written so far, by function
+proofs = {}
+
+
 def write(function, text):
-    path = os.path.join(PROOFS, function, 'Proof.antt')
-    os.makedirs(os.path.dirname(path), exist_ok=True)
-    with open(path, 'w') as f:
-        f.write(prune(text))
+    here = WRITTEN[function][0]
+    text = text.replace('@command@', 'python3 tools/byhand/write.py ' + function)
+    proofs[function] = prune(re.sub(r'@(\w+) (\w+)@', lambda m: path(here, m.group(1), m.group(2)), text))
 
 
 class Ctx:
@@ -67,7 +65,7 @@ class Ctx:
     def say(self, s):
         self.out.append(s)
 
-    # a step that binds a name for the rest of the walk
+    # a step that binds a name for the rest of the proof
     def bind(self, s):
         self.say(s)
         self.open += 1

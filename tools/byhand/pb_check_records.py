@@ -15,24 +15,24 @@ check_sides = Callee('check_sides', numbers + [rows] + sets + [n, sides], ('stru
                      count + [('r', 'Sides'), ('v', 'Val')], count_known + [('is', 'Is S.the-row r (v ∷ [])'), ('within', '(n ≤ length (r .lefts)) × (n ≤ length (r .rights))')], 'within')
 
 entry = Entry(
-    'pb_check_records', '`pressbadger::records::pb_check_records` meets its contract: a walk of its code, which calls three functions and looks into nothing.',
+    'pb_check_records', '`@rust pb_check_records@` meets its contract, proved by hand: its code calls three functions and looks into nothing.',
     numbers + [rows] + sets + [records], 'PbChecked',
     ['E′.mir', 'word', 'word', 'word', 'rowsTy', 'word', 'word', 'recordsTy', 'word', 'S′.mir', 'word'],
     [shown, gather, check_sides],
-    '''use Rattle.pattern.specs.Pattern.{patternOf}
-use Rattle.evidence.specs.Evidence.{offerOf}
-use Rattle.pressbadger.specs.declared.records.PbRecord.{PbRecord}
-use Rattle.pressbadger.specs.declared.checks.PbChecked.{PbChecked}
-use Rattle.pressbadger.specs.declared.records.Sides.{Sides}
-use Rattle.pressbadger.specs.Checks.{ChecksOffer}
-use Rattle.pressbadger.specs.Records.{leftsOf, rightsOf}
-use Rattle.pressbadger.specs.Inner.{Shown, Gathers}
-use Rattle.pressbadger.proofs.Gathering.{shown-fits, checks-shown}
-use Rattle.pressbadger.proofs.records.PbRecord as T
-use Rattle.pressbadger.proofs.checks.PbChecked as E
-use Rattle.pressbadger.proofs.checks.PbChecked.Laws as E′
-use Rattle.pressbadger.proofs.records.Sides as S
-use Rattle.pressbadger.proofs.records.Sides.Laws as S′''',
+    '''use @specs Pattern@.{patternOf}
+use @specs Evidence@.{offerOf}
+use @type PbRecord@.{PbRecord}
+use @type PbChecked@.{PbChecked}
+use @type Sides@.{Sides}
+use @specs Checks@.{ChecksOffer}
+use @specs Records@.{leftsOf, rightsOf}
+use @specs Inner@.{Shown, Gathers}
+use @proofs Gathering@.{shown-fits, checks-shown}
+use @row PbRecord@ as T
+use @row PbChecked@ as E
+use @row PbChecked@.Laws as E′
+use @row Sides@ as S
+use @row Sides@.Laws as S′''',
     '''abbrev rowsTy : Ty
 rowsTy = sliceTy (tyRef (named 0) imm word)
 

@@ -15,22 +15,22 @@ fill = Callee('fill', [found, kept, records], ('unit',), '@WS@ .1 .1 .0 ≡ fill
 compared_in = Callee('compared_in', [found], ('struct', 'E', 'PbCompared'), 'z ≡ r .compared', seen, known)
 
 entry = Entry(
-    'pb_compare', '`pressbadger::records::pb_compare` meets its contract: a walk of its code, which calls four functions and looks into nothing.',
+    'pb_compare', '`@rust pb_compare@` meets its contract, proved by hand: its code calls four functions and looks into nothing.',
     numbers + [rows] + sets + [room, records, sequence], 'PbCompared',
     ['E′.mir', 'word', 'word', 'word', 'rowsTy', 'word', 'word', 'word', 'recordsTy', 'bytesTy', 'F′.mir', 'word', 'word', '(tyRef erased mut byte)', '(sliceTy (tyRef erased mut byte))', 'tyUnit', '(tyRef erased mut recTy)', '(sliceTy (tyRef erased mut recTy))'],
     [find, kept_in, fill, compared_in],
-    '''use Rattle.walk.specs.Walk.{Question, questionOf}
-use Rattle.pressbadger.specs.declared.records.PbRecord.{PbRecord}
-use Rattle.pressbadger.specs.declared.lists.PbCompared.{PbCompared}
-use Rattle.pressbadger.specs.declared.records.Found.{Found}
-use Rattle.pressbadger.specs.Records.{Enters}
-use Rattle.pressbadger.specs.Inner.{Finds, filled}
-use Rattle.pressbadger.proofs.Entering.{enters-found, kept-within}
-use Rattle.pressbadger.proofs.records.PbRecord as T
-use Rattle.pressbadger.proofs.lists.PbCompared as E
-use Rattle.pressbadger.proofs.lists.PbCompared.Laws as E′
-use Rattle.pressbadger.proofs.records.Found as F
-use Rattle.pressbadger.proofs.records.Found.Laws as F′''',
+    '''use @specs Walk@.{Question, questionOf}
+use @type PbRecord@.{PbRecord}
+use @type PbCompared@.{PbCompared}
+use @type Found@.{Found}
+use @specs Records@.{Enters}
+use @specs Inner@.{Finds, filled}
+use @proofs Entering@.{enters-found, kept-within}
+use @row PbRecord@ as T
+use @row PbCompared@ as E
+use @row PbCompared@.Laws as E′
+use @row Found@ as F
+use @row Found@.Laws as F′''',
     '''abbrev rowsTy : Ty
 rowsTy = sliceTy (tyRef (named 0) imm word)
 

@@ -10,18 +10,18 @@ pb_compare = Callee('pb_compare', numbers + [rows] + sets + [room, records, sequ
                     'Enters Q room (records .now) (sequence .now) z (@WS@%s .0) (@WS@%s .0)' % (' .1' * 7, ' .1' * 8), [('room', 'ℕ')], [('room-fits', 'room < 2 ^ 64')])
 
 entry = Entry(
-    'pb_compare_default', '`pressbadger::records::pb_compare_default` meets its contract: a walk of its code, which calls two functions.',
+    'pb_compare_default', '`@rust pb_compare_default@` meets its contract, proved by hand: its code calls two functions.',
     numbers + [rows] + sets + [records, sequence], 'PbCompared',
     ['E′.mir', 'word', 'word', 'word', 'rowsTy', 'word', 'word', 'recordsTy', 'bytesTy', 'word', '(tyRef erased mut recTy)', '(sliceTy (tyRef erased mut recTy))', '(tyRef erased mut byte)', '(sliceTy (tyRef erased mut byte))'],
     [default_room, pb_compare],
-    '''use Rattle.walk.specs.Walk.{Question, questionOf}
-use Rattle.walk.specs.Answers.{defaultRoom}
-use Rattle.pressbadger.specs.declared.records.PbRecord.{PbRecord}
-use Rattle.pressbadger.specs.declared.lists.PbCompared.{PbCompared}
-use Rattle.pressbadger.specs.Records.{Enters}
-use Rattle.pressbadger.proofs.records.PbRecord as T
-use Rattle.pressbadger.proofs.lists.PbCompared as E
-use Rattle.pressbadger.proofs.lists.PbCompared.Laws as E′''',
+    '''use @specs Walk@.{Question, questionOf}
+use @specs Answers@.{defaultRoom}
+use @type PbRecord@.{PbRecord}
+use @type PbCompared@.{PbCompared}
+use @specs Records@.{Enters}
+use @row PbRecord@ as T
+use @row PbCompared@ as E
+use @row PbCompared@.Laws as E′''',
     '''abbrev rowsTy : Ty
 rowsTy = sliceTy (tyRef (named 0) imm word)
 

@@ -1,4 +1,4 @@
-# Walks of functions that only call: numbers are passed on, a `&` is copied, and each `&mut` is given to one callee for good.
+# Proofs of functions that only call: numbers are passed on, a `&` is copied, and each `&mut` is given to one callee for good.
 from context import Ctx, items, l, nest, sub, write
 
 USES = '''use mathlib.Core.Path.{_≡_, refl, sym, ap, _∙_, subst}
@@ -40,8 +40,6 @@ use denote.Triple.Clauses.{ensured, lasts}
 use denote.Triple.Table.{entered, cited}
 use denote.Triple.Walked.{says, Stays, stay-none, stay-none-slice, gave-slice, walkOf, AllGo, goes-none, goes-none-slice, goes-gave-slice, Walks, ends-at, walked, walk-meets}
 use denote.Exit.{yes}'''
-
-CRATE = 'Rattle.pressbadger.proofs.records.'
 
 
 # ---- what is passed: each has its type, its value, its machine value, and how it is owned again
@@ -106,7 +104,7 @@ class Callee:
         self.tuple = nest([a.value for a in args])
 
     def uses(self):
-        m = CRATE + self.name
+        m = '@fn %s@' % self.name
         return 'use %s as %s\nuse %s.Symbol as %s-def\nuse %s.Symbol.{name as #%s}\nuse %s.Met as %s-thm' % (m, self.alias, m, self.symbol, m, self.symbol, m, self.symbol)
 
     def cite(self):
@@ -193,13 +191,13 @@ class Entry:
             else:
                 c.say('pass1 ! (init ! %d refl (tt, record { fits = %s })) $' % (c.at('_%d' % k), p.fits))
         c.say('pass0 ! $ by ! (first C Λ fm %s %s)' % (' '.join('known-' + f.symbol for f in callees), self.ls()) + ')' * self.count)
-        self.walk = c.text()
+        self.enters = c.text()
         self.before = list(c.c)
 
     def ls(self):
         return ' '.join(l(k) for k in range(self.count))
 
-    # a walk of the body, with the tokens and what is owned taken apart
+    # the steps of the body, with the tokens and what is owned taken apart
     def body(self):
         c = Ctx(self.before)
         cur = 'toks'
@@ -363,9 +361,9 @@ class Entry:
         binders = ' '.join('κ' + sub(k) for k in self.lifetimes), ' '.join('q' + sub(k) for k in self.lifetimes)
         entry = 'onEntry 𝓤 H A f.signature %s %s args vals' % (self.ks, self.qs)
         sym = self.name.replace('_', '-')
-        m = CRATE + self.name
+        m = '@fn %s@' % self.name
         text = '''-- %s
--- Written by tools/walks; what it says is checked by the prover.
+-- Written out by `@command@`; what it says is checked by the prover.
 %s
 %s
 %s
@@ -482,8 +480,8 @@ unfolding code.routine tablesOf
     (tables 𝓤 H 𝓜 𝓡 code.env .C) (tables 𝓤 H 𝓜 𝓡 code.env .Λ) #%s code.function (code.unfolded 𝓤 H 𝓜 𝓡)
     (entry-meets 𝓤 H (𝓖 .A) (givenOf 𝓤 H 𝓜 𝓖) (𝓜 .mem) (𝓡 .run) (tablesOf 𝓤 H 𝓜 (tables 𝓤 H 𝓜 𝓡 code.env))
 ''' % (known, self.ls(), items('(%s, %s)' % (t, l(k)) for k, t in enumerate(self.locals)), items(self.item(x) for x in self.before), self.first,
-            n, len(P), items('local %s valueLocal' % t for t in self.locals), known, entry, self.item('toks'), self.walk, entry, entry,
+            n, len(P), items('local %s valueLocal' % t for t in self.locals), known, entry, self.item('toks'), self.enters, entry, entry,
             arrows.replace('%s', 'C'), ks, vals, tells, passed, ks, n, goes, arrows.replace('%s', '𝓣 .C'), ks, ks, sym, sym, sym)
-        text += '\n'.join('    (cited 𝓤 H (%s 𝓤 H (𝓖 .A) (𝓜 .mem) (𝓡 .run)) 𝓜 𝓡 code.env #%s %s-def.routine code.calls-pressbadger·records·%s (%s-thm.met 𝓤 H 𝓜 𝓖 𝓡))'
-                          % (f.contract, f.symbol, f.symbol, f.symbol, f.symbol) for f in self.callees) + ')\n'
+        text += '\n'.join('    (cited 𝓤 H (%s 𝓤 H (𝓖 .A) (𝓜 .mem) (𝓡 .run)) 𝓜 𝓡 code.env #%s %s-def.routine code.@call %s@ (%s-thm.met 𝓤 H 𝓜 𝓖 𝓡))'
+                          % (f.contract, f.symbol, f.symbol, f.name, f.symbol) for f in self.callees) + ')\n'
         write(self.name, text)
