@@ -15,7 +15,7 @@ entry = Entry(
     ['E′.mir', 'word', 'word', 'word', 'rowsTy', 'word', 'word', 'recordsTy', 'bytesTy', 'word', '(tyRef erased mut recTy)', '(sliceTy (tyRef erased mut recTy))', '(tyRef erased mut byte)', '(sliceTy (tyRef erased mut byte))'],
     [default_room, pb_compare],
     '''use @specs Walk@.{Question, questionOf}
-use @specs Answers@.{defaultRoom}
+use @specs Rooms@.{defaultRoom}
 use @type PbRecord@.{PbRecord}
 use @type PbCompared@.{PbCompared}
 use @specs Records@.{Enters}

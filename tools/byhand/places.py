@@ -32,7 +32,7 @@ TYPES = {
 
 # the files of specs/ and of proofs/
 SPECS = {
-    'Answers': ('walk', ''),
+    'Rooms': ('sets', ''),
     'Checks': ('pressbadger', ''),
     'Evidence': ('evidence', ''),
     'Inner': ('pressbadger', ''),

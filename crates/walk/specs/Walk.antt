@@ -110,6 +110,17 @@ pub data Outcome : Type 0 where
   Different : List Record → ℕ → List ℕ → Outcome
   Full : List Record → ℕ → Outcome
 
+-- the records and the sequence of an outcome; there is none but for DIFFERENT
+abbrev pub keptOf : Outcome → List Record
+keptOf (Same records examined) = records
+keptOf (Different records examined word) = records
+keptOf (Full records examined) = records
+
+abbrev pub wordOf : Outcome → List ℕ
+wordOf (Same records examined) = []
+wordOf (Different records examined word) = word
+wordOf (Full records examined) = []
+
 -- no candidate is left: SAME
 -- 2. not congruent, and exactly one side accepts the empty sequence: stop, DIFFERENT
 -- 3. else as many records are kept as the room allows: stop, FULL
