@@ -1,14 +1,14 @@
 #!/usr/bin/env python3
-"""Fails where docs/PROMISES.md names a definition, theorem, must-fail edit or test that is not there.
+"""Fails where docs/PROMISES.md names a point of the scope, a definition, theorem, must-fail edit or test that is not there.
 
-The page's tables have columns named definition, theorem, must-fail edits and tests; what stands before them is the sentence and where
-the scope has it. In the first two, `name` `name` (crate/specs/File) says that this file declares these names, publicly: a record, a
+The page's tables have columns named definition, theorem, must-fail edits and tests; what stands before them is the sentence and the
+points of docs/SCOPE.md that it belongs to (§5.3; a point starts with its number in bold). In the first two, `name` `name` (crate/specs/File) says that this file declares these names, publicly: a record, a
 data type, an abbreviation, a function or theorem. `Type.member` is a field or a constructor. In a file of src/ it is a function, a
 struct or an enum. In the column of must-fail edits `crate/label` is an edit; every edit of the repository has to be named. In the
 column of tests `name` is a Rust function marked #[test], a path is a file, and `name` (tests/c/host.c) is a function of that file.
 
 What is no fault, but to be known, ends the output in lines that start with 'note:': rows whose only test is the reference against
-itself, and definitions that stand in proofs/.
+itself, definitions that stand in proofs/, and points of the scope that no row has.
 """
 import pathlib
 import re
@@ -20,6 +20,7 @@ NAMED = re.compile(r"`([^`]+)`")
 CITED = re.compile(r"((?:`[^`]+` )+)\(([\w/+.]+)\)")
 WORDS = r"((?:(?:abbrev|unfoldable|opaque|pub|record|data)\s+)*)"
 DECLARED = re.compile(r"^(\s*)" + WORDS + r"([^\s:(){}]+)(?=[\s:({]|$)(.*)$")
+POINT = re.compile(r"§\d+\.\d+")
 TESTED = re.compile(r"#\[test\]\s*(?:#\[[^\]]*\]\s*)*fn (\w+)\(")
 
 
@@ -95,10 +96,17 @@ def tests():
     return found
 
 
+def points():
+    """The points of the scope; none where there is no such page."""
+    page = ROOT / "docs" / "SCOPE.md"
+    return re.findall(r"^\*\*(§\d+\.\d+)\*\*", page.read_text(), re.M) if page.exists() else []
+
+
 def main():
     lines, wrong = rows((ROOT / "docs" / "PROMISES.md").read_text())
     edits = {"%s/%s" % (edit.parts[-3], edit.stem) for edit in ROOT.glob("crates/*/must-fail/*.edit")}
     known, named, notes = tests(), set(), []
+    scope, had = points(), set()
     if not lines:
         wrong.append("docs/PROMISES.md has no rows")
 
@@ -112,6 +120,8 @@ def main():
             yield path, names
 
     for number, sentence, definition, theorem, refused, tried in lines:
+        had |= set(POINT.findall(sentence))
+        wrong += ["line %d: the scope has no %s" % (number, point) for point in POINT.findall(sentence) if point not in scope]
         for path, names in cited(number, definition):
             if "/proofs/" in path:
                 notes.append("line %d: the definition %s(%s) stands in no specs/" % (number, names, path))
@@ -127,6 +137,9 @@ def main():
                 wrong.append("line %d: no test %s" % (number, name))
         if rest and not elsewhere and all(known.get(name) for name in rest):
             notes.append("line %d: tested by the reference against itself only: %s" % (number, sentence))
+    bare = [point for point in scope if point not in had]
+    if bare:
+        notes.append("points of the scope that no row has: " + ", ".join(bare))
     for edit in sorted(edits - named):
         wrong.append("no row names the must-fail edit %s" % edit)
     for line in wrong:

@@ -108,11 +108,13 @@ def compile_c(page):
 def compared(page):
     """What the page says that bin/compare prints."""
     shown = re.findall(r"^\$ bin/compare (\S+)\n((?:[^$`\n].*\n|\n)*)", page, re.M)
-    if not shown:
-        yield "README.md shows no question and its answer"
+    program = ROOT / "target" / "bin" / "compare"
+    if not shown or not program.exists():
+        yield "README.md shows no question and its answer" if not shown else "compare is not built: run `rt check compare`"
+        return
     for file, answer in shown:
         with open(ROOT / file, "rb") as question:
-            printed = subprocess.run([ROOT / "target" / "bin" / "compare"], stdin=question, capture_output=True, text=True).stdout
+            printed = subprocess.run([program], stdin=question, capture_output=True, text=True).stdout
         if printed != answer:
             yield "README.md does not show what is printed for %s:\n%s" % (file, printed)
 

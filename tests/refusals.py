@@ -14,8 +14,8 @@ at a fact
 
 or for another reason, which fails
   need       a fact, invariant or name that the proof cites is not there (`has no Need-..`)
-  shape      the text does not fit together: a field, a name, an argument, a clause too many or too few, data of another type, or the
-             parts of a proof where they are put together (`..-spec`)
+  shape      the text does not fit together: a field, a name, an argument, a clause too many or too few, data of another type, an
+             invariant's own text, or the parts of a proof where they are put together (`..-spec`)
   step       a proof by hand goes along the code step by step, and is refused at the step that was edited, whatever it does
   other      none of these
 
@@ -31,12 +31,16 @@ FACT = ("tactic", "mismatch", "unproved")
 ERROR = re.compile(r"^(\S+?):(\d+):(\d+): error: (.*)$")
 FOLLOWS = re.compile(r"was not admitted\b.*so this cannot be checked")
 IN = re.compile(r"^`([^`]+)`: ")
-TACTIC = re.compile(r"^`(omega|search|cc|simp|rw|grw)`:|^give a proof of that as the last argument, `rw")
+TACTIC = re.compile(
+    r"^`omega`: .* does not follow from what it read|^`search`: no proof of |^`rw`: no occurrence of |^`simp`: no equation of "
+    r"|^give a proof of that as the last argument, |^list the missing equation"
+)
 MISMATCH = re.compile(r"the two (types|sides|indices) |expected type `|` *\n? *≟ `.*does not hold", re.S)
 NEED = re.compile(r"has no `[^`]+` that can be named from here|is not in scope")
 SHAPE = re.compile(r"has no field|this tuple has|is applied to an argument but|does not parse|this clause |too many|too few")
 TYPES = re.compile(r"(?:expected type|but this has type) `([^`]*)`")
-DATA = re.compile(r"^\(*(?:[\w·]+\.)*(?:ℕ|ℤ|Bool|List|String|Char|Type|Option|Val|RefT|the-data)\b[^≡≤<→]*$")
+DATA = re.compile(r"^(?:.*→ )?\(*(?:[\w·]+\.)*(?:ℕ|ℤ|Bool|List|String|Char|Type|Option|Val|RefT|the-data)\b[^≡≤<→]*$")
+BINDS = re.compile(r"^[({]\w+ : ")
 STEP = re.compile(r"^\(*types\.(?:Run|Part|Kit)\.")
 
 
@@ -67,7 +71,9 @@ def kind(said):
         types = TYPES.findall(text)
         if any(STEP.match(t) for t in types):
             return "step"
-        if name.endswith("-spec") or name.startswith(("Inv-", "μ-")) or any(DATA.match(t) for t in types):
+        if name.endswith("-spec") or name.startswith(("Inv-", "μ-")):
+            return "shape"
+        if any(DATA.match(t) for t in types) or len({bool(BINDS.match(t)) for t in types}) > 1:
             return "shape"
         return "mismatch"
     return "other"
