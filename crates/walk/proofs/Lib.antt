@@ -18,6 +18,8 @@ pub mod SameMeansSame
 pub mod DifferentMeansDifferent
 pub mod Counts
 pub mod MoreRoom
+pub mod LessRoom
+pub mod FullExactly
 pub mod RoomEnough
 -- the call
 pub mod CompareDetermined

@@ -110,6 +110,11 @@ pub data Outcome : Type 0 where
   Different : List Record → ℕ → List ℕ → Outcome
   Full : List Record → ℕ → Outcome
 
+abbrev pub examinedOf : Outcome → ℕ
+examinedOf (Same records examined) = examined
+examinedOf (Different records examined word) = examined
+examinedOf (Full records examined) = examined
+
 -- no candidate is left: SAME
 -- 2. not congruent, and exactly one side accepts the empty sequence: stop, DIFFERENT
 -- 3. else as many records are kept as the room allows: stop, FULL
