@@ -8,32 +8,29 @@ use native.Mathlib.Omega.{arith}
 use lib.ListN.{length}
 use Rattle.pattern.specs.Pattern.{Sized}
 use Rattle.walk.specs.Walk.{Question, Record, Outcome, Walk}
-use Rattle.walk.specs.Walk.Outcome.{Same, Different, Full}
+use Rattle.walk.specs.Walk.Outcome.{Full}
 use Rattle.walk.specs.Answers.{keptOf}
-use Rattle.walk.specs.Meaning.{Proper, Settled, Outgrows}
+use Rattle.walk.specs.Meaning.{Proper, Outgrows}
 use Rattle.walk.proofs.Counts.{counts}
 use Rattle.walk.proofs.WalkUnique.{walk-unique}
 use Rattle.walk.proofs.WalkEnds.{walk-ends}
 use Rattle.walk.proofs.LessRoom.{room-suffices, less-room}
 
 -- where a room is FULL, every larger one keeps more than it allows
-module _ {Q : Question} (sized : Sized (Q .pattern .states) (Q .pattern .letters)) {room more : ℕ} (larger : room < more) where
-  settled-not-full : {kept : List Record} {e : ℕ} {o : Outcome} → Settled o → length (keptOf o) ≤ room → Walk Q room (Full kept e) → Walk Q more o → ⊥
-  settled-not-full {kept} {e} {o} s h v w =
-      let same : Full kept e ≡ o = walk-unique v (room-suffices room s h w) in
-      rw (← same) at s
+pub full-keeps-more : {Q : Question} {room more : ℕ} {kept : List Record} {e : ℕ} {o : Outcome} → Sized (Q .pattern .states) (Q .pattern .letters)
+    → room < more → Walk Q room (Full kept e) → Walk Q more o → room < length (keptOf o)
+full-keeps-more {Q} {room} {more} {kept} {e} {o} sized larger v w = pick (decLt room (length (keptOf o)))
+  where
+    -- else both are FULL with the same records, which are too few for the larger
+    same : length (keptOf o) ≤ room → Full kept e ≡ o
+    same h = walk-unique v (room-suffices room (omega arith) h w)
 
-  keeps-more : {kept : List Record} {e : ℕ} (o : Outcome) → length (keptOf o) ≤ room → Walk Q room (Full kept e) → Walk Q more o → ⊥
-  keeps-more (Same k f) h v w = settled-not-full tt h v w
-  keeps-more (Different k f u) h v w = settled-not-full tt h v w
-  keeps-more (Full k f) h v w = omega (arith, counts sized w .by-answer)
+    few : length (keptOf o) ≤ room → ⊥
+    few h = let w′ : Walk Q more (Full kept e) = rw (same h) w in omega (arith, counts sized v .by-answer, counts sized w′ .by-answer)
 
-  pub full-keeps-more : {kept : List Record} {e : ℕ} {o : Outcome} → Walk Q room (Full kept e) → Walk Q more o → room < length (keptOf o)
-  full-keeps-more {o = o} v w = pick (decLt room (length (keptOf o)))
-    where
-      pick : Dec (room < length (keptOf o)) → room < length (keptOf o)
-      pick (yes l) = l
-      pick (no n) = absurd (keeps-more o (omega arith) v w)
+    pick : Dec (room < length (keptOf o)) → room < length (keptOf o)
+    pick (yes l) = l
+    pick (no n) = absurd (few (omega arith))
 
 pub full-exactly : {Q : Question} → Proper Q → (room : ℕ) → ((kept : List Record) × (e : ℕ) × Walk Q room (Full kept e)) ↔ Outgrows Q room
 full-exactly {Q} p room = (to, fro)

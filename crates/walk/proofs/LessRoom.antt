@@ -14,7 +14,7 @@ use Rattle.walk.specs.Walk.Outcome.{Full}
 use Rattle.walk.specs.Walk.Ends.{same, different, full}
 use Rattle.walk.specs.Walk.Moved.{stay, go}
 use Rattle.walk.specs.Answers.{keptOf}
-use Rattle.walk.specs.Meaning.{Settled, numberKept, cutTo}
+use Rattle.walk.specs.Meaning.{numberKept, cutTo}
 use Rattle.walk.proofs.Sound.{sound-begin, sound-moved, from-below}
 use Rattle.walk.proofs.Counts.{counts}
 
@@ -45,16 +45,16 @@ module _ {Q : Question} {room : ℕ} (r : ℕ) where
   moved-within h (go {p} (Moves.kept l f a g) n) =
       go (Moves.kept l f a (omega (arith, grows n, length-append (p .kept) (upcoming Q p ∷ [])))) (moved-within h n)
 
-  ends-within : {p : Position} {o : Outcome} → Settled o → Ends Q room p o → Ends Q r p o
-  ends-within s (same n) = same n
-  ends-within s (different l f a w) = different l f a w
-  ends-within s (full l f a h) = absurd s
+  ends-within : {p : Position} {o : Outcome} → r ≤ room → Ends Q room p o → Ends Q r p o
+  ends-within le (same n) = same n
+  ends-within le (different l f a w) = different l f a w
+  ends-within le (full l f a h) = full l f a (omega arith)
 
-  -- SAME and DIFFERENT are the same outcome in every room that holds the records kept
-  pub room-suffices : {o : Outcome} → Settled o → length (keptOf o) ≤ r → Walk Q room o → Walk Q r o
-  room-suffices s h w =
+  -- an outcome that keeps at most r records is the outcome in room r
+  pub room-suffices : {o : Outcome} → r ≤ room → length (keptOf o) ≤ r → Walk Q room o → Walk Q r o
+  room-suffices le h w =
       let fits : length (w .last .kept) ≤ r = rw (last-kept (w .ends)) h in
-      record { last = w .last; moved = moved-within fits (w .moved); ends = ends-within s (w .ends) }
+      record { last = w .last; moved = moved-within fits (w .moved); ends = ends-within le (w .ends) }
 
 -- ---- a room that does not
 
