@@ -15,7 +15,7 @@ entry = Entry(
     ['E′.mir', 'word', 'word', 'word', 'rowsTy', 'word', 'word', 'recordsTy', 'bytesTy', 'word', '(tyRef erased mut recTy)', '(sliceTy (tyRef erased mut recTy))', '(tyRef erased mut byte)', '(sliceTy (tyRef erased mut byte))'],
     [default_room, pb_compare],
     '''use Rattle.walk.specs.Walk.{Question, questionOf}
-use Rattle.walk.specs.Answers.{defaultRoom}
+use Rattle.sets.specs.Rooms.{defaultRoom}
 use Rattle.pressbadger.specs.declared.records.PbRecord.{PbRecord}
 use Rattle.pressbadger.specs.declared.lists.PbCompared.{PbCompared}
 use Rattle.pressbadger.specs.Records.{Enters}

@@ -3,11 +3,13 @@ use mathlib.Core.Path.{_≡_, refl, sym, ap, ap₂, _∙_, subst}
 use mathlib.Core.List.{List, [], _∷_, _++_, map}
 use Prim.Native.Nat.{ℕ, zero, suc}
 use lib.ListN.{length, drop, length-map}
-use Rattle.walk.specs.Walk.{Question, Record}
-use Rattle.walk.specs.Answers.{Lent, answerOf, keptOf, wordOf, lay, layOut, Compared}
-use Rattle.walk.specs.Answers.Compared.{refuses, walks}
-use Rattle.walk.specs.declared.Answer.{Answer}
-use Rattle.walk.proofs.CompareDetermined.{compare-determined}
+use Rattle.walk.specs.Walk.{Question, Record, keptOf, wordOf}
+use Rattle.lent.specs.Lent.{lay}
+use Rattle.comparison.specs.Answers.{Lent, answerOf, layOut, Compared}
+use Rattle.comparison.specs.Answers.Compared.{refuses, walks}
+use Rattle.comparison.specs.declared.Answer.{Answer}
+use Rattle.comparison.proofs.Standing.{lent-path}
+use Rattle.comparison.proofs.CompareDetermined.{compare-determined}
 use Rattle.pressbadger.specs.declared.records.PbRecord.{PbRecord}
 use Rattle.pressbadger.specs.declared.lists.PbCompared.{PbCompared}
 use Rattle.pressbadger.specs.Lists.{compareAnswer}
@@ -35,23 +37,21 @@ column-laid f kept old =
     ∙ ap₂ (λ (a b : List ℕ). a ++ b) (map-written f kept)
     (map-drop f (length kept) old ∙ ap (λ (n : ℕ). drop n (map f old)) (sym (length-map kept (λ (r : Record). f (written r)))))
 
-lent-path : {a b : Lent} → a .lefts ≡ b .lefts → a .rights ≡ b .rights → a .parents ≡ b .parents → a .taken ≡ b .taken → a .sequence ≡ b .sequence → a ≡ b
-lent-path p q r s t i = record { lefts = p i; rights = q i; parents = r i; taken = s i; sequence = t i }
-
 pub columns-laid : (kept : List Record) (word : List ℕ) (records : List PbRecord) (sequence : List ℕ)
     → columns (layRecords kept records) (lay word sequence) ≡ layOut kept word (columns records sequence)
-unfolding layOut
 columns-laid kept word records sequence =
     lent-path
-    (column-laid (λ (r : PbRecord). r .left) kept records)
-    (column-laid (λ (r : PbRecord). r .right) kept records)
-    (column-laid (λ (r : PbRecord). r .parent) kept records)
-    (column-laid (λ (r : PbRecord). r .letter) kept records)
+    (λ i. record {
+      lefts = column-laid (λ (r : PbRecord). r .left) kept records i;
+      rights = column-laid (λ (r : PbRecord). r .right) kept records i;
+      parents = column-laid (λ (r : PbRecord). r .parent) kept records i;
+      taken = column-laid (λ (r : PbRecord). r .letter) kept records i;
+    })
     refl
 
 -- ---- the two calls
 
--- what the call over records answers and leaves is what `walk` promises for its columns
+-- what the call over records answers and leaves is what `comparison` promises for its columns
 pub record ByColumns (Q : Question) (room : ℕ) (records : List PbRecord) (sequence : List ℕ) (r : PbCompared) (after : List PbRecord) (word : List ℕ) : Type 0 where
   pub answer : Answer
   pub compared : Compared (callOn Q room records sequence) answer (columns after word)

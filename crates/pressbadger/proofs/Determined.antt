@@ -4,10 +4,12 @@ use mathlib.Core.Path.{_≡_, refl, sym, ap, _∙_}
 use mathlib.Core.List.{List}
 use Prim.Native.Nat.{ℕ}
 use Rattle.pattern.specs.Pattern.{Pattern}
-use Rattle.walk.specs.Walk.{Question, Outcome}
-use Rattle.walk.specs.Answers.{Lent, Call, answerOf, keptOf, wordOf, lay, Compared}
+use Rattle.walk.specs.Walk.{Question, Outcome, keptOf, wordOf}
+use Rattle.lent.specs.Lent.{lay}
+use Rattle.comparison.specs.Answers.{Lent, Call, answerOf, Compared}
 use Rattle.walk.proofs.WalkUnique.{walk-unique}
-use Rattle.walk.proofs.CompareDetermined.{never-both, compare-determined}
+use Rattle.verdict.proofs.Ordered.{apart}
+use Rattle.comparison.proofs.CompareDetermined.{compare-determined}
 use Rattle.evidence.specs.Evidence.{Offer}
 use Rattle.evidence.proofs.Determined.{check-determined}
 use Rattle.patternfile.proofs.Determined.{reader-determined, writer-determined}
@@ -45,8 +47,8 @@ pb-compare-lists-determined a b =
 pub pb-compare-determined : {Q : Question} {room : ℕ} {records : List PbRecord} {sequence : List ℕ} {r s : PbCompared} {after after′ : List PbRecord} {word word′ : List ℕ}
     → Enters Q room records sequence r after word → Enters Q room records sequence s after′ word′ → (r ≡ s) × (after ≡ after′) × (word ≡ word′)
 pb-compare-determined (refuses e) (refuses d) = (ap compareAnswer (compare-determined (Compared.refuses e) (Compared.refuses d) .0), refl, refl)
-pb-compare-determined (refuses e) (walks d w) = never-both e d
-pb-compare-determined (walks e w) (refuses d) = never-both d e
+pb-compare-determined (refuses e) (walks d w) = apart d e
+pb-compare-determined (walks e w) (refuses d) = apart e d
 pb-compare-determined {Q} {room} {records} {sequence} (walks e w) (walks d v) =
     let same = walk-unique w v in (
       ap (λ (o : Outcome). compareAnswer (answerOf o)) same,

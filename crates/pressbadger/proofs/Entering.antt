@@ -12,14 +12,16 @@ use borrow.Author.Tests.{le-leb, leb-true}
 use Rattle.verdict.specs.declared.Verdict.{Verdict}
 use Rattle.verdict.specs.Tests.{need, inOrder, each}
 use Rattle.pattern.specs.Tests.{setTest, shapeTest, masksTest}
-use Rattle.walk.specs.Walk.{Question, Record, Position, Outcome, Walk, Ends}
+use Rattle.walk.specs.Walk.{Question, Record, Position, Outcome, keptOf, wordOf, Walk, Ends}
 use Rattle.walk.specs.Walk.Outcome.{Same, Different, Full}
 use Rattle.walk.specs.Walk.Ends.{same, different, full}
-use Rattle.walk.specs.Answers.{Lent, Call, maxRoom, roomTest, compareTest, answerOf, keptOf, wordOf, lay, layOut, Compared}
-use Rattle.walk.specs.Answers.Compared.{refuses, walks}
-use Rattle.walk.specs.declared.Answer.{Answer}
+use Rattle.sets.specs.Rooms.{maxRoom}
+use Rattle.lent.specs.Lent.{lay}
+use Rattle.comparison.specs.Answers.{Lent, Call, roomTest, compareTest, answerOf, layOut, Compared}
+use Rattle.comparison.specs.Answers.Compared.{refuses, walks}
+use Rattle.comparison.specs.declared.Answer.{Answer}
 use Rattle.walk.proofs.Sound.{fits-moved}
-use Rattle.walk.proofs.Asking.{compare-fine}
+use Rattle.comparison.proofs.Asking.{compare-fine}
 use Rattle.pressbadger.specs.declared.records.PbRecord.{PbRecord}
 use Rattle.pressbadger.specs.declared.lists.PbCompared.{PbCompared}
 use Rattle.pressbadger.specs.declared.records.Found.{Found}
@@ -89,30 +91,30 @@ record-path : {a b : PbRecord} → a .left ≡ b .left → a .right ≡ b .right
 record-path p q r s i = record { left = p i; right = q i; parent = r i; letter = s i }
 
 abbrev foundOf : PbCompared → Lent → Found
-foundOf k l = record { compared = k; lefts = l .lefts; rights = l .rights; parents = l .parents; taken = l .taken }
+foundOf k l = record { compared = k; lefts = l .columns .lefts; rights = l .columns .rights; parents = l .columns .parents; taken = l .columns .taken }
 
 same-as : (k : PbCompared) (kept : List Record) (word : List ℕ) (old : Lent) → Same-as (foundOf k (layOut kept word old)) kept
-unfolding layOut
 same-as k kept word old =
     record {
       each = λ i b. record-path
-          (column-at (λ (r : Record). r .left) kept (old .lefts) refl i b)
-          (column-at (λ (r : Record). r .right) kept (old .rights) refl i b)
-          (column-at (λ (r : Record). r .parent) kept (old .parents) refl i b)
-          (column-at (λ (r : Record). r .letter) kept (old .taken) refl i b);
+          (column-at (λ (r : Record). r .left) kept (old .columns .lefts) refl i b)
+          (column-at (λ (r : Record). r .right) kept (old .columns .rights) refl i b)
+          (column-at (λ (r : Record). r .parent) kept (old .columns .parents) refl i b)
+          (column-at (λ (r : Record). r .letter) kept (old .columns .taken) refl i b);
     }
 
 -- ---- the two calls are refused alike
 
-rooms : (b c d : Bool) → inOrder (need b 13 ∷ need c 13 ∷ need c 13 ∷ need c 13 ∷ need c 13 ∷ need d 13 ∷ []) ≡ need (b && (c && d)) 13
+rooms : (b c d : Bool) → inOrder (need b 13 ∷ need d 13 ∷ need c 13 ∷ need c 13 ∷ need c 13 ∷ need c 13 ∷ []) ≡ need (b && (c && d)) 13
 unfolding inOrder need
 rooms true true true = refl
 rooms true true false = refl
-rooms true false d = refl
+rooms true false true = refl
+rooms true false false = refl
 rooms false c d = refl
 
 -- the room test of lists that are equally long
-room-is : (room n : ℕ) (lent : Lent) → length (lent .lefts) ≡ n → length (lent .rights) ≡ n → length (lent .parents) ≡ n → length (lent .taken) ≡ n
+room-is : (room n : ℕ) (lent : Lent) → length (lent .columns .lefts) ≡ n → length (lent .columns .rights) ≡ n → length (lent .columns .parents) ≡ n → length (lent .columns .taken) ≡ n
     → roomTest room lent ≡ need (leb room maxRoom && (leb room n && leb room (length (lent .sequence)))) 13
 unfolding roomTest each
 room-is room n lent p q r s = rw (p, q, r, s) (rooms (leb room maxRoom) (leb room n) (leb room (length (lent .sequence))))
@@ -148,7 +150,7 @@ room-alike room listed asks d e ask h = cases (decLe room listed)
         ∙ sym (ap (λ (u : Bool). leb room maxRoom && (u && e)) (leb-false room listed (omega (arith, n))) ∙ fails-last (leb room maxRoom) e)
 
 module _ (Q : Question) (room listed asks : ℕ) (own : Lent) (ask : Asked room listed asks)
-    (l₁ : length (own .lefts) ≡ maxRoom) (l₂ : length (own .rights) ≡ maxRoom) (l₃ : length (own .parents) ≡ maxRoom) (l₄ : length (own .taken) ≡ maxRoom) where
+    (l₁ : length (own .columns .lefts) ≡ maxRoom) (l₂ : length (own .columns .rights) ≡ maxRoom) (l₃ : length (own .columns .parents) ≡ maxRoom) (l₄ : length (own .columns .taken) ≡ maxRoom) where
   abbrev inner : Call
   inner = record { question = Q; room = asks; lent = own }
 
@@ -171,7 +173,6 @@ module _ (Q : Question) (room listed asks : ℕ) (own : Lent) (ask : Asked room 
         ∙ sym (room-is room listed (columns records (own .sequence)) (length-map records _ ∙ e) (length-map records _ ∙ e) (length-map records _ ∙ e) (length-map records _ ∙ e)))
 
   found : {a : Answer} {l : Lent} (k : PbCompared) → k ≡ compareAnswer a → Compared inner a l → Finds Q room listed (own .sequence) (foundOf k l) (l .sequence)
-  unfolding layOut
   found k g (refuses {number} p) =
       let none-kept : k .kept ≡ 0 = ap (λ (z : PbCompared). z .kept) g in
       record {
@@ -199,7 +200,7 @@ module _ (Q : Question) (room listed asks : ℕ) (own : Lent) (ask : Asked room 
 
 pub finding : {Q : Question} {room listed asks : ℕ} {own : Lent} {a : Answer} {l : Lent} (k : PbCompared) → k ≡ compareAnswer a
     → Compared (record { question = Q; room = asks; lent = own }) a l → Asked room listed asks
-    → length (own .lefts) ≡ maxRoom → length (own .rights) ≡ maxRoom → length (own .parents) ≡ maxRoom → length (own .taken) ≡ maxRoom
+    → length (own .columns .lefts) ≡ maxRoom → length (own .columns .rights) ≡ maxRoom → length (own .columns .parents) ≡ maxRoom → length (own .columns .taken) ≡ maxRoom
     → Finds Q room listed (own .sequence) (foundOf k l) (l .sequence)
 finding {Q} {room} {listed} {asks} {own} k g z ask l₁ l₂ l₃ l₄ = found Q room listed asks own ask l₁ l₂ l₃ l₄ k g z
 

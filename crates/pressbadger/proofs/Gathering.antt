@@ -12,8 +12,8 @@ use Rattle.verdict.specs.Tests.{inOrder}
 use Rattle.verdict.proofs.Ordered.{need-fails, order-fine}
 use Rattle.pattern.specs.Tests.{shapeTest}
 use Rattle.pattern.specs.Pattern.{Pattern}
-use Rattle.walk.specs.Answers.{maxRoom}
-use Rattle.walk.proofs.CompareDetermined.{never-both}
+use Rattle.sets.specs.Rooms.{maxRoom}
+use Rattle.verdict.proofs.Ordered.{apart}
 use Rattle.evidence.specs.Evidence.{Offer, listTest, checkTest, Checked}
 use Rattle.evidence.specs.declared.Answer.{Answer}
 use Rattle.evidence.specs.Evidence.Checked.{refuses, not-started, started}
@@ -94,7 +94,7 @@ module _ (P : Pattern) (x y : ℕ) (ls rs ls′ rs′ : List ℕ) (same : length
 
   never-fine : checkTest (offer P x y ls rs) ≡ Fine → ⊥
   unfolding checkTest
-  never-fine e = never-both long-left (order-fine _ .0 e .1 .0)
+  never-fine e = apart (order-fine _ .0 e .1 .0) long-left
 
   checked-alike : {a : Answer} → Checked (offer P x y ls rs) a → Checked (offer P x y ls′ rs′) a
   checked-alike (refuses e) = refuses (sym refused-alike ∙ e)

@@ -8,7 +8,7 @@ use mathlib.Core.List.{List}
 use Prim.Native.Nat.{ℕ, zero, suc, _+_, _≤_, _<_}
 use lib.ListN.{length, getD, set, take}
 use Rattle.walk.specs.Walk.{Question}
-use Rattle.walk.specs.Answers.{maxRoom}
+use Rattle.sets.specs.Rooms.{maxRoom}
 use Rattle.pressbadger.specs.declared.records.PbRecord.{PbRecord}
 use Rattle.pressbadger.specs.declared.records.Found.{Found}
 use Rattle.pressbadger.specs.declared.records.Sides.{Sides}

@@ -1,7 +1,7 @@
--- What the comparison over lent lists answers: the promise of `walk`, as the host reads it.
+-- What the comparison over lent lists answers: the promise of `comparison`, as the host reads it.
 use mathlib.Core.Path.{_≡_}
-use Rattle.walk.specs.Answers.{Call, Lent, Compared, numberOf, valuesOf}
-use Rattle.walk.specs.declared.Answer.{Answer}
+use Rattle.comparison.specs.Answers.{Call, Lent, Compared, numberOf, valuesOf}
+use Rattle.comparison.specs.declared.Answer.{Answer}
 use Rattle.pressbadger.specs.declared.lists.PbCompared.{PbCompared}
 
 -- document 01's number and values of an answer

@@ -1,4 +1,4 @@
--- What the comparison over a lent list of records answers and leaves: the promise of `walk`, as the host reads it.
+-- What the comparison over a lent list of records answers and leaves: the promise of `comparison`, as the host reads it.
 --   written         a kept record as it lies in the list
 --   columns         a list of records column by column, and the sequence bytes: what the comparison over lists of numbers is lent for it
 --   callOn          the call over lists of numbers that a list of records stands for
@@ -9,9 +9,10 @@ use mathlib.Core.List.{List, _++_, map}
 use Prim.Native.Nat.{ℕ}
 use lib.ListN.{length, drop}
 use Rattle.verdict.specs.declared.Verdict.the-variants.{Fine, Against}
-use Rattle.walk.specs.Walk.{Question, Record, Outcome, Walk}
-use Rattle.walk.specs.Answers.{Lent, lentOf, Call, compareTest, answerOf, keptOf, wordOf, lay}
-use Rattle.walk.specs.declared.Answer.{Answer}
+use Rattle.walk.specs.Walk.{Question, Record, Outcome, keptOf, wordOf, Walk}
+use Rattle.lent.specs.Lent.{lay}
+use Rattle.comparison.specs.Answers.{Lent, lentOf, Call, compareTest, answerOf}
+use Rattle.comparison.specs.declared.Answer.{Answer}
 use Rattle.pressbadger.specs.declared.records.PbRecord.{PbRecord}
 use Rattle.pressbadger.specs.declared.lists.PbCompared.{PbCompared}
 use Rattle.pressbadger.specs.Lists.{compareAnswer}

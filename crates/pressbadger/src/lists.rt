@@ -1,8 +1,8 @@
 // The comparison for a host that lends the records column by column: it has no table of its own.
 ghost use mathlib.Core.Path.{_≡_};
-ghost use Rattle.walk.specs.Answers.{callOf, lentOf};
+ghost use Rattle.comparison.specs.Answers.{callOf, lentOf};
 ghost use Rattle.pressbadger.specs.Lists.{compareAnswer, ComparesLists};
-use walk::Answer;
+use comparison::Answer;
 
 // The answer to a comparison: document 01's number and values.
 #[repr(C)]
@@ -31,7 +31,7 @@ pub extern "C" fn pb_compare_lists(
 ) -> PbCompared
     ensures { λ r. ⌜ ComparesLists (callOf states letters finals (now (rows .entry)) x y room (lentOf (now (lefts .entry)) (now (rights .entry)) (now (parents .entry)) (now (taken .entry)) (now (sequence .entry)))) r (lentOf (now (lefts .exit)) (now (rights .exit)) (now (parents .exit)) (now (taken .exit)) (now (sequence .exit))) ⌝ }
 {
-    let answer = walk::compare(
+    let answer = comparison::compare(
         states,
         letters,
         finals,

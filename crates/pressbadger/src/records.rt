@@ -4,7 +4,7 @@ ghost use Prim.Native.Nat.{_≤_, _<_};
 ghost use lib.ListN.{length, take};
 ghost use Rattle.walk.specs.Walk.{questionOf};
 ghost use Rattle.evidence.specs.Evidence.{offerOf};
-ghost use Rattle.walk.specs.Answers.{defaultRoom};
+ghost use Rattle.sets.specs.Rooms.{defaultRoom};
 ghost use Rattle.pressbadger.specs.Checks.{ChecksOffer};
 ghost use Rattle.pressbadger.specs.Records.{leftsOf, rightsOf, Enters};
 ghost use Rattle.pressbadger.specs.Inner.{recordAt, filled, Asked, Finds, Shown, Gathers};
@@ -59,7 +59,7 @@ fn find(
     let mut parents = [0u16; 1024];
     let mut taken = [0u8; 1024];
     let asks = asked(room, listed);
-    let answer = walk::compare(
+    let answer = comparison::compare(
         states,
         letters,
         finals,

@@ -3,11 +3,11 @@ use mathlib.Core.Path.{_≡_, refl, ap}
 use mathlib.Core.List.{List, [], _∷_, _++_, map}
 use Prim.Native.Nat.{ℕ, _≤_}
 use lib.ListN.{length, take, length-map}
-use Rattle.walk.specs.declared.Answer.{Answer}
-use Rattle.walk.specs.Walk.{Record, leftsOf, rightsOf, Outcome}
+use Rattle.comparison.specs.declared.Answer.{Answer}
+use Rattle.walk.specs.Walk.{Record, leftsOf, rightsOf, Outcome, keptOf, wordOf}
 use Rattle.walk.specs.Walk.Outcome.{Same, Different, Full}
-use Rattle.walk.specs.Answers.{Lent, answerOf, keptOf, wordOf, layOut}
-use Rattle.walk.proofs.Columns.{take-lay}
+use Rattle.comparison.specs.Answers.{Lent, answerOf, layOut}
+use Rattle.lent.proofs.Laying.{take-lay}
 use Rattle.text.specs.Text.{word, decimal, line}
 use Rattle.events.specs.Events.{eventName}
 use Rattle.report.specs.Report.{recordLines, textOf, refusalText}
@@ -48,12 +48,12 @@ unfolding pairLines recordLines
 record-lines [] = refl
 record-lines (r ∷ kept) = ap (λ (l : List ℕ). line (decimal (r .left) ∷ decimal (r .right) ∷ []) ++ l) (record-lines kept)
 
-pub answer-text : (o : Outcome) (old : Lent) → let new = layOut (keptOf o) (wordOf o) old in answerText (answerOf o) (new .lefts) (new .rights) (new .sequence) ≡ textOf o
-unfolding answerText textOf layOut
+pub answer-text : (o : Outcome) (old : Lent) → let new = layOut (keptOf o) (wordOf o) old in answerText (answerOf o) (new .columns .lefts) (new .columns .rights) (new .sequence) ≡ textOf o
+unfolding answerText textOf
 answer-text (Same kept examined) old =
     rw (
-      take-lay (leftsOf kept) (old .lefts) (length kept) (length-map kept (λ (r : Record). r .left)),
-      take-lay (rightsOf kept) (old .rights) (length kept) (length-map kept (λ (r : Record). r .right)),
+      take-lay (leftsOf kept) (old .columns .lefts) (length kept) (length-map kept (λ (r : Record). r .left)),
+      take-lay (rightsOf kept) (old .columns .rights) (length kept) (length-map kept (λ (r : Record). r .right)),
       record-lines kept,
     )
 answer-text (Different kept examined sequence) old = rw (take-lay sequence (old .sequence) (length sequence) refl)

@@ -7,8 +7,9 @@ use Rattle.numbers.specs.Format.{got, refused}
 use Rattle.numbers.proofs.Formats.{refused-got}
 use Rattle.patternfile.specs.PatternFile.{numbersOf}
 use Rattle.patternfile.proofs.Determined.{same-rows}
-use Rattle.walk.specs.Walk.{Question, Outcome, Walk}
-use Rattle.walk.specs.Answers.{Lent, defaultRoom, keptOf, wordOf, layOut}
+use Rattle.walk.specs.Walk.{Question, Outcome, keptOf, wordOf, Walk}
+use Rattle.sets.specs.Rooms.{defaultRoom}
+use Rattle.comparison.specs.Answers.{Lent, layOut}
 use Rattle.walk.proofs.WalkUnique.{walk-unique}
 use Rattle.text.specs.Text.{Put}
 use Rattle.text.proofs.Putting.{put-determined}

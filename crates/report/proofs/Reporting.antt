@@ -13,13 +13,15 @@ use Rattle.patternfile.specs.declared.PatternRead.the-variants as Read
 use Rattle.patternfile.specs.Reader.{ReadDone, ReadRefused, Reads}
 use Rattle.patternfile.proofs.Contents.{Contents, accepted-valid}
 use Rattle.patternfile.proofs.RoundTrip.{left-rows}
-use Rattle.walk.specs.declared.Answer.{Answer}
-use Rattle.walk.specs.Walk.{Question, questionOf, Outcome, Walk}
-use Rattle.walk.specs.Answers.{Lent, Call, defaultRoom, answerOf, keptOf, wordOf, layOut, compareTest, Compared}
-use Rattle.walk.specs.Meaning.{Proper, Roomy}
-use Rattle.walk.proofs.Asking.{compare-fine}
-use Rattle.walk.proofs.CompareDetermined.{never-both}
-use Rattle.walk.proofs.CompareHonest.{compare-valid, compare-honest}
+use Rattle.comparison.specs.declared.Answer.{Answer}
+use Rattle.walk.specs.Walk.{Question, questionOf, Outcome, keptOf, wordOf, Walk}
+use Rattle.sets.specs.Rooms.{defaultRoom}
+use Rattle.comparison.specs.Answers.{Lent, Call, answerOf, layOut, compareTest, Compared}
+use Rattle.walk.specs.Meaning.{Proper}
+use Rattle.comparison.specs.Meaning.{Roomy}
+use Rattle.comparison.proofs.Asking.{compare-fine}
+use Rattle.verdict.proofs.Ordered.{apart}
+use Rattle.comparison.proofs.CompareHonest.{compare-valid, compare-honest}
 use Rattle.text.specs.Text.{Put}
 use Rattle.text.proofs.Putting.{put-length, put-as}
 use Rattle.report.specs.Report.{textOf, refusalText, rowRoom, Asks, Refuses, Prints, Leaves, Reports}
@@ -53,7 +55,7 @@ record Walked (c : Call) (answer : Answer) (l : Lent) : Type 0 where
   pub left : l ≡ layOut (keptOf outcome) (wordOf outcome) (c .lent)
 
 walked : {c : Call} {answer : Answer} {l : Lent} → compareTest c ≡ Fine → Compared c answer l → Walked c answer l
-walked fine (Compared.refuses against) = never-both against fine
+walked fine (Compared.refuses against) = apart fine against
 walked fine (Compared.walks {o} f w) = record { outcome = o; walk = w; answered = refl; left = refl }
 
 -- ---- a file that was read
@@ -103,15 +105,15 @@ module _ {input rows : List ℕ} {n k f x y : ℕ} {new : List ℕ} (t : Accepte
         let told = compare-honest compared (compare-valid proper roomy compared) in
         record { few = told .kept-fits; short = omega (arith, told .length-fits, told .kept-fits) }
 
-    pub answer-reported : {old : List ℕ} {r : ℕ} {out : List ℕ} → Put old 0 (answerText answer (l .lefts) (l .rights) (l .sequence)) r out
+    pub answer-reported : {old : List ℕ} {r : ℕ} {out : List ℕ} → Put old 0 (answerText answer (l .columns .lefts) (l .columns .rights) (l .sequence)) r out
         → Reports input old r out × Leaves input rows lent new l
     answer-reported put = (
       reported (answers asks (went .walk)) (put-as put text),
       subst (λ (t : List ℕ). Leaves input rows lent t l) (sym rows-laid) (subst (λ (m : Lent). Leaves input rows lent (sets rows 0 (take (n * k) new)) m) (sym (went .left)) (laid asks (went .walk))),
     )
       where
-        text : answerText answer (l .lefts) (l .rights) (l .sequence) ≡ textOf (went .outcome)
+        text : answerText answer (l .columns .lefts) (l .columns .rights) (l .sequence) ≡ textOf (went .outcome)
         text =
-            ap (λ (m : Lent). answerText answer (m .lefts) (m .rights) (m .sequence)) (went .left)
-            ∙ ap (λ (a : Answer). let m = layOut (keptOf (went .outcome)) (wordOf (went .outcome)) lent in answerText a (m .lefts) (m .rights) (m .sequence)) (went .answered)
+            ap (λ (m : Lent). answerText answer (m .columns .lefts) (m .columns .rights) (m .sequence)) (went .left)
+            ∙ ap (λ (a : Answer). let m = layOut (keptOf (went .outcome)) (wordOf (went .outcome)) lent in answerText a (m .columns .lefts) (m .columns .rights) (m .sequence)) (went .answered)
             ∙ answer-text (went .outcome) lent

@@ -5,8 +5,8 @@
 use mathlib.Core.List.{List, [], _∷_, _++_, map}
 use Prim.Native.Nat.{ℕ, _≤_}
 use lib.ListN.{take}
-use Rattle.walk.specs.declared.Answer.{Answer}
-use Rattle.walk.specs.Answers.{valuesOf}
+use Rattle.comparison.specs.declared.Answer.{Answer}
+use Rattle.comparison.specs.Answers.{valuesOf}
 use Rattle.text.specs.Text.{word, decimal, line}
 use Rattle.events.specs.Events.{eventName}
 use Rattle.report.specs.Report.{refusalText}

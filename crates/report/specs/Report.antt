@@ -17,10 +17,11 @@ use lib.Seq.{sets}
 use Rattle.numbers.specs.Format.{refused, fileReading}
 use Rattle.patternfile.specs.PatternFile.{patternFormat}
 use Rattle.patternfile.specs.Reader.{FileOf}
-use Rattle.walk.specs.Walk.{Question, Record, Outcome, Walk}
+use Rattle.walk.specs.Walk.{Question, Record, Outcome, keptOf, wordOf, Walk}
 use Rattle.walk.specs.Walk.Outcome.{Same, Different, Full}
-use Rattle.walk.specs.Answers.{Lent, defaultRoom, keptOf, wordOf, layOut}
-use Rattle.walk.specs.Meaning.{Roomy}
+use Rattle.sets.specs.Rooms.{defaultRoom}
+use Rattle.comparison.specs.Answers.{Lent, layOut}
+use Rattle.comparison.specs.Meaning.{Roomy}
 use Rattle.text.specs.Text.{word, decimal, line, Put}
 use Rattle.events.specs.Events.{eventName}
 

@@ -5,16 +5,16 @@ ghost use Prim.Native.Nat.{_+_, _≤_};
 ghost use lib.ListN.{length};
 ghost use Rattle.text.specs.Text.{Put, word, decimal, spaced, line};
 ghost use Rattle.events.specs.Events.{eventName};
-ghost use Rattle.walk.specs.Answers.{lentOf};
+ghost use Rattle.comparison.specs.Answers.{lentOf};
 ghost use Rattle.report.specs.Report.{refusalText, longest, Lends, Leaves, Reports};
 ghost use Rattle.report.specs.Inner.{pairLines, answerText, Small};
+use comparison::Answer;
 use events::put_name;
 use patternfile::PatternRead;
 use text::put_byte;
 use text::put_bytes;
 use text::put_decimal;
 use text::put_number;
-use walk::Answer;
 
 // Numbers, each with a space in front.
 fn put_numbers(out: &mut [u8], at: usize, numbers: &[u64]) -> usize
@@ -168,7 +168,7 @@ pub fn report(
             y,
         } => {
             let count = states * letters;
-            let answer = walk::compare_default(
+            let answer = comparison::compare_default(
                 states,
                 letters,
                 finals,

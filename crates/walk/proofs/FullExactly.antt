@@ -7,9 +7,8 @@ use native.Mathlib.Decide.{decLt}
 use native.Mathlib.Omega.{arith}
 use lib.ListN.{length}
 use Rattle.pattern.specs.Pattern.{Sized}
-use Rattle.walk.specs.Walk.{Question, Record, Outcome, Walk}
+use Rattle.walk.specs.Walk.{Question, Record, Outcome, keptOf, Walk}
 use Rattle.walk.specs.Walk.Outcome.{Full}
-use Rattle.walk.specs.Answers.{keptOf}
 use Rattle.walk.specs.Meaning.{Proper, Outgrows}
 use Rattle.walk.proofs.Counts.{counts}
 use Rattle.walk.proofs.WalkUnique.{walk-unique}

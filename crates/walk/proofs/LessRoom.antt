@@ -8,12 +8,12 @@ use native.Mathlib.Omega.{arith}
 use lib.ListN.{length, getD, take, length-append, length-map}
 use lib.Seq.{getD-at, take-at}
 use Rattle.pattern.specs.Pattern.{Sized}
-use Rattle.walk.specs.Walk.{Question, Record, parentsOf, lettersOf, candidate, candidates, Position, begin, upcoming, Remains, Implied, Agrees, keep, Moves, Outcome, Ends, Moved, Walk}
+use Rattle.walk.specs.Walk.{Question, Record, candidate, candidates, Position, begin, upcoming, Remains, Implied, Agrees, keep, Moves, Outcome, keptOf, Ends, Moved, Walk}
 use Rattle.walk.specs.Walk.Moves.{skipped}
 use Rattle.walk.specs.Walk.Outcome.{Full}
 use Rattle.walk.specs.Walk.Ends.{same, different, full}
 use Rattle.walk.specs.Walk.Moved.{stay, go}
-use Rattle.walk.specs.Answers.{keptOf}
+use Rattle.walk.specs.Columns.{columnsOf}
 use Rattle.walk.specs.Meaning.{numberKept, cutTo}
 use Rattle.walk.proofs.Sound.{sound-begin, sound-moved, from-below}
 use Rattle.walk.proofs.Counts.{counts}
@@ -89,7 +89,7 @@ column-at f kept rest r =
 
 -- a candidate that is kept has its number in its record
 number-kept : (Q : Question) → 0 < Q .pattern .letters → (kept rest : List Record) (e : ℕ) → length kept ≤ e → e < candidates Q kept
-    → (all : List Record) → all ≡ kept ++ (candidate Q kept e ∷ rest) → numberKept (Q .pattern .letters) (parentsOf all) (lettersOf all) (length kept) ≡ e
+    → (all : List Record) → all ≡ kept ++ (candidate Q kept e ∷ rest) → numberKept (Q .pattern .letters) (columnsOf all) (length kept) ≡ e
 unfolding candidate
 number-kept Q pos [] rest zero f l all z = refl
 number-kept Q pos [] rest (suc e) f l all z = absurd (not-suc-le-zero (from-below Q pos [] e l))
@@ -114,7 +114,7 @@ module _ {Q : Question} {room : ℕ} (sized : Sized (Q .pattern .states) (Q .pat
           let (rest, g) = grown (k .after) in
           let all : keptOf o ≡ p .kept ++ (upcoming Q p ∷ rest) = sym (last-kept (w .ends)) ∙ g ∙ append-assoc (p .kept) (upcoming Q p ∷ []) rest in
           let first : take r (keptOf o) ≡ p .kept = ap (take r) all ∙ take-at (p .kept) (upcoming Q p ∷ rest) r (k .many) in
-          let number : numberKept (Q .pattern .letters) (parentsOf (keptOf o)) (lettersOf (keptOf o)) r ≡ p .examined =
+          let number : numberKept (Q .pattern .letters) (columnsOf (keptOf o)) r ≡ p .examined =
           rw (← k .many) (number-kept Q pos (p .kept) rest (p .examined) (s .fewer) (k .remains) (keptOf o) all) in
           rw (first, number) (record { last = p; moved = k .moved; ends = full (k .remains) (k .new) (k .agrees) (omega (arith, k .many)) })
 

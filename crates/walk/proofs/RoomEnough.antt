@@ -12,12 +12,11 @@ use Rattle.pattern.specs.Language.Over.{empty}
 use Rattle.congruence.specs.Congruence.{Congruent, Listed}
 use Rattle.congruence.specs.Congruence.Congruent.{back, on}
 use Rattle.congruence.proofs.Laws.{of-equal}
-use Rattle.walk.specs.Walk.{Question, Record, leftsOf, rightsOf, Position, upcoming, Remains, Implied, Moves, Outcome, Ends, Moved, Walk}
+use Rattle.walk.specs.Walk.{Question, Record, leftsOf, rightsOf, Position, upcoming, Remains, Implied, Moves, Outcome, keptOf, Ends, Moved, Walk}
 use Rattle.walk.specs.Walk.Moves.{skipped}
 use Rattle.walk.specs.Walk.Outcome.{Full}
 use Rattle.walk.specs.Walk.Ends.{same, different, full}
 use Rattle.walk.specs.Walk.Moved.{stay, go}
-use Rattle.walk.specs.Answers.{keptOf}
 use Rattle.walk.specs.Meaning.{Covers}
 use Rattle.walk.proofs.Sound.{Sound, sound-begin, sound-move, walk-sound, congruent-more, implied-last}
 use Rattle.walk.proofs.Leading.{leads, has-word}

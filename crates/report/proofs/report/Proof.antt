@@ -99,8 +99,8 @@ put-answer-requires c κs =
       (
         answer-small (file (asked answer)) roomy (answer .compare-default .ensures),
         (
-          omega (arith, roomy .lefts-fit, lefts-left .lefts .given),
-          (omega (arith, roomy .rights-fit, rights-left .rights .given), omega (arith, roomy .sequence-fits, bytes-left .sequence .given)),
+          omega (arith, roomy .columns-fit .lefts, lefts-left .lefts .given),
+          (omega (arith, roomy .columns-fit .rights, rights-left .rights .given), omega (arith, roomy .sequence-fits, bytes-left .sequence .given)),
         ),
       ),
     )

@@ -39,7 +39,7 @@ use denote.Triple.Table.{entered, cited}
 use denote.Triple.Walked.{says, Stays, stay-none, stay-none-slice, gave-slice, walkOf, AllGo, goes-none, goes-none-slice, goes-gave-slice, Walks, ends-at, walked, walk-meets}
 use denote.Exit.{yes}
 use Rattle.walk.specs.Walk.{Question, questionOf}
-use Rattle.walk.specs.Answers.{defaultRoom}
+use Rattle.sets.specs.Rooms.{defaultRoom}
 use Rattle.pressbadger.specs.declared.records.PbRecord.{PbRecord}
 use Rattle.pressbadger.specs.declared.lists.PbCompared.{PbCompared}
 use Rattle.pressbadger.specs.Records.{Enters}

@@ -1,4 +1,4 @@
--- `walk::room_test` holds the room against each bound in turn.
+-- `comparison::room_test` holds the room against each bound in turn.
 use Prim.Native.Nat.{ℕ, _-_}
 use mathlib.Core.Path.{sym, _∙_}
 use borrow.Author.Needs.{needs}
@@ -7,8 +7,8 @@ use lib.ListN.{length}
 use lib.Dec.{leb}
 use Rattle.verdict.specs.Tests.{need}
 use Rattle.verdict.proofs.Each.{Passed, passed-none, passed-more, passed-stop, passed-all}
-use Rattle.walk.proofs.room_test.Statement.{statement}
-use Rattle.walk.proofs.room_test.Tie as tie
+use Rattle.comparison.proofs.room_test.Statement.{statement}
+use Rattle.comparison.proofs.room_test.Tie as tie
 
 abbrev Inv-loop : tie.InvT-loop
 Inv-loop room bounds i₀ i = Passed (λ (most : ℕ). need (leb room most) 13) bounds i

@@ -1,9 +1,9 @@
--- `walk::compare` refuses by its tests, or makes the walk.
+-- `comparison::compare` refuses by its tests, or makes the walk.
 use mathlib.Core.Path.{sym, _∙_}
 use borrow.Author.Needs.{needs}
-use Rattle.walk.specs.Answers.Compared.{refuses}
-use Rattle.walk.proofs.compare.Statement.{statement}
-use Rattle.walk.proofs.compare.Tie as tie
+use Rattle.comparison.specs.Answers.Compared.{refuses}
+use Rattle.comparison.proofs.compare.Statement.{statement}
+use Rattle.comparison.proofs.compare.Tie as tie
 
 compare-test-requires : tie.Need-compare-test-requires
 compare-test-requires c κs = search needs

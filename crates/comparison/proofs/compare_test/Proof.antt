@@ -1,12 +1,12 @@
--- `walk::compare_test` makes its five tests in order.
+-- `comparison::compare_test` makes its five tests in order.
 use mathlib.Core.Path.{_≡_, sym, _∙_}
 use borrow.Author.Needs.{needs}
 use Rattle.verdict.specs.declared.Verdict.the-variants.{Fine}
 use Rattle.pattern.specs.Tests.{setTest, shapeTest, masksTest}
-use Rattle.walk.specs.Answers.{Call, lentOf, callOf, roomTest}
-use Rattle.walk.proofs.Asking.{shape-decides, room-decides, masks-decide, left-decides, right-decides}
-use Rattle.walk.proofs.compare_test.Statement.{statement}
-use Rattle.walk.proofs.compare_test.Tie as tie
+use Rattle.comparison.specs.Answers.{Call, lentOf, callOf, roomTest}
+use Rattle.comparison.proofs.Asking.{shape-decides, room-decides, masks-decide, left-decides, right-decides}
+use Rattle.comparison.proofs.compare_test.Statement.{statement}
+use Rattle.comparison.proofs.compare_test.Tie as tie
 
 -- ---- the places of the code: from each the earlier ones
 

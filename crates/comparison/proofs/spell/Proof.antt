@@ -1,13 +1,13 @@
--- `walk::spell` writes the path of a record and one letter more.
+-- `comparison::spell` writes the path of a record and one letter more.
 use mathlib.Core.Path.{refl, _∙_}
 use Prim.Native.Nat.{_-_, _<_}
 use native.Mathlib.Omega.{arith}
 use lib.ListN.{length, length-set}
 use borrow.Author.Needs.{needs}
 use Rattle.walk.proofs.Paths.{Further, further-of}
-use Rattle.walk.proofs.Spelling.{Climbing, Writing, climbing-first, climbing-step, climbing-done, at-positive, writing-first, writing-step, writing-done}
-use Rattle.walk.proofs.spell.Statement.{statement}
-use Rattle.walk.proofs.spell.Tie as tie
+use Rattle.comparison.proofs.Spelling.{Climbing, Writing, climbing-first, climbing-step, climbing-done, at-positive, writing-first, writing-step, writing-done}
+use Rattle.comparison.proofs.spell.Statement.{statement}
+use Rattle.comparison.proofs.spell.Tie as tie
 
 abbrev Inv-loop : tie.InvT-loop
 Inv-loop parents taken from last sequence count₀ i₀ count i = Climbing parents taken from count i

@@ -1,12 +1,12 @@
--- `walk::propose` makes the candidate of its number.
+-- `comparison::propose` makes the candidate of its number.
 use Prim.Native.Nat.{_-_, _/_, _<_}
 use native.Mathlib.Nat.{mod-lt}
 use native.Mathlib.Omega.{arith}
 use lib.ListN.{length}
 use borrow.Author.Needs.{needs}
-use Rattle.walk.proofs.Proposing.{proposed-first, proposed-later, parent-below}
-use Rattle.walk.proofs.propose.Statement.{statement}
-use Rattle.walk.proofs.propose.Tie as tie
+use Rattle.comparison.proofs.Proposing.{proposed-first, proposed-later, parent-below}
+use Rattle.comparison.proofs.propose.Statement.{statement}
+use Rattle.comparison.proofs.propose.Tie as tie
 
 -- ---- the places of the code
 

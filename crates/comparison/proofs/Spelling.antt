@@ -6,10 +6,10 @@ use native.Mathlib.Numerals.{add-one}
 use native.Mathlib.Omega.{arith}
 use lib.ListN.{length, getD, take, drop, set, length-append, length-set, take-append-drop}
 use lib.Seq.{take-suc, set-at, length-take-le, set-split, drop-at}
+use Rattle.lent.specs.Lent.{lay}
 use Rattle.walk.specs.Walk.{Path}
-use Rattle.walk.specs.Answers.{lay}
-use Rattle.walk.specs.Inner.{Spelt}
+use Rattle.comparison.specs.Inner.{Spelt}
 use Rattle.walk.proofs.Paths.{path-unique, further-of, ended-of}
 
 -- ---- the first loop: so many letters are passed, and i is where we stand
 

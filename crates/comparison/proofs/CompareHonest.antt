@@ -5,19 +5,20 @@ use native.Mathlib.Omega.{arith}
 use lib.ListN.{length}
 use Rattle.verdict.specs.declared.Verdict.{Verdict}
 use Rattle.verdict.specs.declared.Verdict.the-variants.{Fine, Against}
-use Rattle.walk.specs.Walk.{Outcome, Walk}
+use Rattle.verdict.proofs.Ordered.{apart}
+use Rattle.lent.proofs.Laying.{take-lay}
+use Rattle.walk.specs.Walk.{Outcome, keptOf, wordOf, Walk}
 use Rattle.walk.specs.Walk.Outcome.{Same, Different, Full}
-use Rattle.walk.specs.Answers.{numberOf, Lent, Call, compareTest, answerOf, keptOf, wordOf, layOut, Compared}
-use Rattle.walk.specs.Answers.Compared.{refuses, walks}
-use Rattle.walk.specs.Meaning.{Proper, Roomy, Honest, Quiet}
-use Rattle.walk.specs.declared.Answer.{Answer}
-use Rattle.walk.proofs.Columns.{take-lay}
-use Rattle.walk.proofs.Asking.{compare-fine, refusal-number}
+use Rattle.walk.specs.Meaning.{Proper}
+use Rattle.comparison.specs.Answers.{numberOf, Lent, Call, compareTest, answerOf, layOut, Compared}
+use Rattle.comparison.specs.Answers.Compared.{refuses, walks}
+use Rattle.comparison.specs.Meaning.{Roomy, Honest, Quiet}
+use Rattle.comparison.specs.declared.Answer.{Answer}
+use Rattle.comparison.proofs.Asking.{compare-fine, refusal-number}
 use Rattle.walk.proofs.WalkEnds.{walk-ends}
 use Rattle.walk.proofs.SameMeansSame.{same-means-same}
 use Rattle.walk.proofs.DifferentMeansDifferent.{different-means-different}
 use Rattle.walk.proofs.Counts.{counts}
-use Rattle.walk.proofs.CompareDetermined.{never-both}
 
 low : (o : Outcome) → numberOf (answerOf o) ≤ 2
 low (Same kept e) = omega arith
@@ -26,11 +27,10 @@ low (Full kept e) = omega arith
 
 -- a valid question in a room that is there gets 0, 1 or 2
 pub compare-valid : {c : Call} {a : Answer} {later : Lent} → Proper (c .question) → Roomy (c .room) (c .lent) → Compared c a later → numberOf a ≤ 2
-compare-valid {c} p r (refuses e) = never-both e (compare-fine c .1 (p, r))
+compare-valid {c} p r (refuses e) = apart (compare-fine c .1 (p, r)) e
 compare-valid {c} p r (walks {o} f w) = low o
 
 honest : (c : Call) → Proper (c .question) → (o : Outcome) → Walk (c .question) (c .room) o → Honest c (answerOf o) (layOut (keptOf o) (wordOf o) (c .lent))
-unfolding layOut
 honest c p (Same kept e) w =
     let n = counts (p .valid .sized) w in
     record {

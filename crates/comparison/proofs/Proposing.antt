@@ -7,8 +7,8 @@ use native.Mathlib.Omega.{arith}
 use lib.ListN.{getD}
 use Rattle.pattern.specs.Pattern.{patternOf}
 use Rattle.pattern.specs.Language.{next}
 use Rattle.walk.specs.Walk.{candidate}
-use Rattle.walk.specs.Inner.{Proposed}
+use Rattle.comparison.specs.Inner.{Proposed}
 
 module _ {states letters : ℕ} {rows : List ℕ} {x y : ℕ} {lefts rights : List ℕ} where
   pub proposed-first : (examined : ℕ) → examined ≡ 0

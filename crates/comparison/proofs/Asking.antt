@@ -1,21 +1,27 @@
 -- The tests of a comparison: their order, that nothing is against a call exactly where the question is proper and the room is there, and that
 -- what is against it is 10 or more. Assumes nothing.
-use mathlib.Core.Path.{_≡_, _∙_}
+use mathlib.Core.Path.{_≡_, refl, _∙_}
 use mathlib.Core.Logic.{_↔_}
 use mathlib.Core.Bool.{Bool, true, false}
-use mathlib.Core.List.{List, [], _∷_, map}
+use mathlib.Core.List.{List, [], _∷_, map, List·Memᴰ}
+use mathlib.Core.List.List·Memᴰ.{List·Memᴰ·head, List·Memᴰ·tail}
 use Prim.Native.Nat.{ℕ, _≤_}
 use native.Mathlib.Omega.{arith}
+use lib.ListN.{length}
 use lib.Dec.{leb}
 use borrow.Author.Tests.{leb-true, le-leb}
 use Rattle.verdict.specs.declared.Verdict.{Verdict}
 use Rattle.verdict.specs.declared.Verdict.the-variants.{Fine, Against}
 use Rattle.verdict.specs.Tests.{need, inOrder, each}
 use Rattle.verdict.proofs.Ordered.{need-holds, need-fine, order-fine, order-stop, order-next, order-last}
+use Rattle.sets.specs.Rooms.{maxRoom}
 use Rattle.pattern.specs.Tests.{sizeTest, tableTest, setTest, shapeTest, masksTest}
 use Rattle.pattern.proofs.Validity.{set-fine, shape-fine, masks-fine}
-use Rattle.walk.specs.Answers.{Lent, Call, roomTest, compareTest}
-use Rattle.walk.specs.Meaning.{Proper, Roomy}
+use Rattle.walk.specs.Columns.{lengths}
+use Rattle.walk.specs.Meaning.{Proper}
+use Rattle.walk.proofs.Columns.{fit-at, fit-by, in-lengths, of-lengths}
+use Rattle.comparison.specs.Answers.{Lent, Call, roomTest, compareTest}
+use Rattle.comparison.specs.Meaning.{Roomy}
 
 -- ---- the order: 10 and 11, then 13, then 12
 
@@ -48,37 +54,45 @@ module _ (c : Call) where
 
 -- ---- nothing is against a call
 
+-- a test of each value has nothing against it exactly where it has nothing against any of them
+each-in : (test : ℕ → Verdict) {values : List ℕ} {v : ℕ} → each test values ≡ Fine → List·Memᴰ v values → test v ≡ Fine
+unfolding each
+each-in test e (List·Memᴰ·head z) = rw z (order-fine _ .0 e .0)
+each-in test {values = v ∷ values} e (List·Memᴰ·tail m) = each-in test (order-fine (map test values) .1 (order-fine _ .0 e .1)) m
+
+each-all : (test : ℕ → Verdict) (values : List ℕ) → ((v : ℕ) → List·Memᴰ v values → test v ≡ Fine) → each test values ≡ Fine
+unfolding each inOrder
+each-all test [] f = refl
+each-all test (v ∷ values) f = order-next (test v) (map test values) (f v (List·Memᴰ·head refl)) ∙ each-all test values (λ u m. f u (List·Memᴰ·tail m))
+
 bound-fine : (room most : ℕ) → (need (leb room most) 13 ≡ Fine) ↔ (room ≤ most)
 bound-fine room most = (λ e. leb-true _ _ (need-fine _ 13 e), λ h. need-holds _ 13 (le-leb _ _ h))
 
-room-fine : (room : ℕ) (lent : Lent) → (roomTest room lent ≡ Fine) ↔ Roomy room lent
-unfolding roomTest each
+pub room-fine : (room : ℕ) (lent : Lent) → (roomTest room lent ≡ Fine) ↔ Roomy room lent
+unfolding roomTest
 room-fine room lent = (to, fro)
   where
+    bounds : List ℕ
+    bounds = maxRoom ∷ length (lent .sequence) ∷ lengths (lent .columns)
+
+    holds : {most : ℕ} → roomTest room lent ≡ Fine → List·Memᴰ most bounds → room ≤ most
+    holds e m = bound-fine room _ .0 (each-in _ e m)
+
     to : roomTest room lent ≡ Fine → Roomy room lent
     to e =
-        let (most, (lefts, (rights, (parents, (taken, (sequence, _)))))) = order-fine _ .0 e in
         record {
-          most = bound-fine room _ .0 most;
-          lefts-fit = bound-fine room _ .0 lefts;
-          rights-fit = bound-fine room _ .0 rights;
-          parents-fit = bound-fine room _ .0 parents;
-          taken-fit = bound-fine room _ .0 taken;
-          sequence-fits = bound-fine room _ .0 sequence;
+          most = holds e (List·Memᴰ·head refl);
+          columns-fit = fit-by (λ x. holds e (List·Memᴰ·tail (List·Memᴰ·tail (in-lengths (lent .columns) x))));
+          sequence-fits = holds e (List·Memᴰ·tail (List·Memᴰ·head refl));
         }
 
+    within : Roomy room lent → {most : ℕ} → List·Memᴰ most bounds → room ≤ most
+    within r (List·Memᴰ·head e) = rw e (r .most)
+    within r (List·Memᴰ·tail (List·Memᴰ·head e)) = rw e (r .sequence-fits)
+    within r (List·Memᴰ·tail (List·Memᴰ·tail m)) = let (x, e) = of-lengths (lent .columns) m in rw e (fit-at (r .columns-fit) x)
+
     fro : Roomy room lent → roomTest room lent ≡ Fine
-    fro r =
-        order-fine _ .1 (
-          bound-fine room _ .1 (r .most),
-          (
-            bound-fine room _ .1 (r .lefts-fit),
-            (
-              bound-fine room _ .1 (r .rights-fit),
-              (bound-fine room _ .1 (r .parents-fit), (bound-fine room _ .1 (r .taken-fit), (bound-fine room _ .1 (r .sequence-fits), tt))),
-            ),
-          ),
-        )
+    fro r = each-all _ _ (λ most m. bound-fine room most .1 (within r m))
 
 pub compare-fine : (c : Call) → (compareTest c ≡ Fine) ↔ (Proper (c .question) × Roomy (c .room) (c .lent))
 unfolding compareTest

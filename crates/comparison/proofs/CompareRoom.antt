@@ -3,18 +3,20 @@ use mathlib.Core.Path.{_≡_, refl, sym, ap, _∙_}
 use mathlib.Core.List.{List, []}
 use Prim.Native.Nat.{ℕ, _+_, _≤_, _<_}
 use native.Mathlib.Omega.{arith}
-use lib.ListN.{length, take, length-map}
-use Rattle.walk.specs.Walk.{Question, Record, leftsOf, rightsOf, parentsOf, lettersOf, Outcome}
+use lib.ListN.{length}
+use Rattle.lent.proofs.Laying.{take-lay}
+use Rattle.walk.specs.Walk.{Question, Record, Outcome, keptOf, wordOf}
 use Rattle.walk.specs.Walk.Outcome.{Same, Different, Full}
-use Rattle.walk.specs.Answers.{numberOf, valuesOf, Lent, Call, answerOf, keptOf, wordOf, lay, layOut, Compared}
-use Rattle.walk.specs.Answers.Compared.{refuses, walks}
-use Rattle.walk.specs.Meaning.{Settled, Covers, SameWritten}
-use Rattle.walk.specs.declared.Answer.{Answer}
-use Rattle.walk.proofs.Columns.{take-lay}
-use Rattle.walk.proofs.Asking.{compare-fine, refusal-number}
+use Rattle.walk.specs.Meaning.{Settled, Covers}
+use Rattle.comparison.specs.Answers.{numberOf, valuesOf, Lent, Call, answerOf, layOut, Compared}
+use Rattle.comparison.specs.Answers.Compared.{refuses, walks}
+use Rattle.comparison.specs.Meaning.{SameWritten}
+use Rattle.comparison.specs.declared.Answer.{Answer}
+use Rattle.comparison.proofs.Standing.{firsts-laid}
+use Rattle.comparison.proofs.Asking.{compare-fine, refusal-number}
 use Rattle.walk.proofs.WalkUnique.{walk-unique}
 use Rattle.walk.proofs.MoreRoom.{more-room}
 use Rattle.walk.proofs.RoomEnough.{room-enough, never-full}
 
 -- ---- more room
 
@@ -23,18 +25,11 @@ settled (Same kept e) h = tt
 settled (Different kept e w) h = tt
 settled (Full kept e) h = omega arith
 
-both : (values : List ℕ) (n : ℕ) (xs ys : List ℕ) → length values ≡ n → take n (lay values xs) ≡ take n (lay values ys)
-both values n xs ys e = take-lay values xs n e ∙ sym (take-lay values ys n e)
-
 same-written : (kept : List Record) (word : List ℕ) (old new : Lent) → SameWritten (length kept) (length word) (layOut kept word old) (layOut kept word new)
-unfolding layOut
 same-written kept word old new =
     record {
-      lefts = both (leftsOf kept) (length kept) (old .lefts) (new .lefts) (length-map kept (λ (r : Record). r .left));
-      rights = both (rightsOf kept) (length kept) (old .rights) (new .rights) (length-map kept (λ (r : Record). r .right));
-      parents = both (parentsOf kept) (length kept) (old .parents) (new .parents) (length-map kept (λ (r : Record). r .parent));
-      taken = both (lettersOf kept) (length kept) (old .taken) (new .taken) (length-map kept (λ (r : Record). r .letter));
-      sequence = both word (length word) (old .sequence) (new .sequence) refl;
+      columns = firsts-laid kept (old .columns) ∙ sym (firsts-laid kept (new .columns));
+      sequence = take-lay word (old .sequence) (length word) refl ∙ sym (take-lay word (new .sequence) (length word) refl);
     }
 
 alike : (o : Outcome) (old new : Lent)

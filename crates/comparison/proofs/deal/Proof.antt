@@ -1,16 +1,19 @@
--- `walk::deal` deals with one candidate: it moves, or it ends the walk.
-use mathlib.Core.Path.{_≡_, sym, _∙_}
-use Prim.Native.Nat.{_+_, _*_, _<_}
+-- `comparison::deal` deals with one candidate: it moves, or it ends the walk.
+use mathlib.Core.Path.{_≡_, sym, ap, _∙_}
+use Prim.Native.Nat.{suc, _+_, _*_, _<_}
 use native.Mathlib.Omega.{arith}
 use lib.ListN.{length, take}
 use lib.Seq.{length-take-le}
 use borrow.Author.Needs.{needs}
-use Rattle.walk.specs.Answers.{Call, lentOf, callOf}
+use Rattle.comparison.specs.Answers.{Call, lentOf, callOf}
 use Rattle.walk.specs.Walk.{upcoming}
-use Rattle.walk.specs.Inner.{recordOf, recordsOf, standing}
-use Rattle.walk.proofs.Dealing.{Facing, Old, Alike, shown, length-records, long-parents, long-taken, letter-small, parent-small, spellable, deal-skipped, deal-full, deal-first, deal-later, deal-kept, flags-same, flags-other}
-use Rattle.walk.proofs.deal.Statement.{statement}
-use Rattle.walk.proofs.deal.Tie as tie
+use Rattle.walk.specs.Columns.{Columns, Fit}
+use Rattle.walk.proofs.Columns.{fit-less}
+use Rattle.comparison.specs.Inner.{recordOf, recordsOf, standing}
+use Rattle.comparison.proofs.Dealing.{Facing, Old, Alike, long-parents, long-taken, letter-small, parent-small, spellable, deal-skipped, deal-full, deal-first, deal-later, deal-kept, flags-same, flags-other}
+use Rattle.comparison.proofs.Standing.{length-records, shown}
+use Rattle.comparison.proofs.deal.Statement.{statement}
+use Rattle.comparison.proofs.deal.Tie as tie
 
 -- ---- the places of the code: from each the earlier ones
 
@@ -42,22 +45,25 @@ call s =
     let a = s .args in
     callOf (a .states) (a .letters) (a .finals) (a .rows .now) (a .x) (a .y) (a .room) (lentOf (a .lefts .now) (a .rights .now) (a .parents .now) (a .taken .now) (a .sequence .now))
 
+fit : (s : tie.Start) → Fit (s .args .kept) (call s .lent .columns)
+fit s = fit-less (s .pre .within) (s .pre .roomy .columns-fit)
+
 long-lefts : (s : tie.Start) → length (take (s .args .kept) (s .args .lefts .now)) ≡ s .args .kept
-long-lefts s = length-take-le _ _ (omega (arith, s .pre .within, s .pre .roomy .lefts-fit))
+long-lefts s = length-take-le _ _ (fit s .lefts)
 
 long-rights : (s : tie.Start) → length (take (s .args .kept) (s .args .rights .now)) ≡ s .args .kept
-long-rights s = length-take-le _ _ (omega (arith, s .pre .within, s .pre .roomy .rights-fit))
+long-rights s = length-take-le _ _ (fit s .rights)
 
 before-end : (s : tie.Start) → s .args .examined < 1 + s .args .letters * length (take (s .args .kept) (s .args .lefts .now))
-before-end s = rw (long-lefts s) (rw (length-records (call s .lent) (s .args .kept)) at (s .pre .remains))
+before-end s = rw (long-lefts s) (rw (length-records (call s .lent .columns) (s .args .kept)) at (s .pre .remains))
 
 -- what the code made is the candidate
 is : (c : tie.After-propose)
     → recordOf (c .propose .result) ≡ upcoming (call (proposed c) .question) (standing (call (proposed c) .lent) (proposed c .args .kept) (proposed c .args .examined))
 is c =
     let s = proposed c in
-    let columns = shown (s .pre .roomy) (s .pre .within) in
-    c .propose .ensures .all (s .args .finals) (recordsOf (call s .lent) (s .args .kept)) (columns .lefts) (columns .rights)
+    let columns = shown (call s .lent .columns) (s .args .kept) (fit s) in
+    c .propose .ensures .all (s .args .finals) (recordsOf (call s .lent .columns) (s .args .kept)) (ap (λ (d : Columns). d .lefts) columns) (ap (λ (d : Columns). d .rights) columns)
 
 abbrev facing : (c : tie.After-propose) → Facing (call (proposed c)) (proposed c .args .kept) (proposed c .args .examined)
 facing c = record { ready = proposed c .pre; made = c .propose .result; is = is c }
@@ -71,16 +77,20 @@ apart c = flags-other _ _ (c .if2 .taken) (c .before .before .meets .ensures) (c
 alike : (c : tie.Else2) → Alike (facing (made (equal c)))
 alike c = flags-same _ _ (c .if2 .left) (c .before .before .meets .ensures) (c .before .meets2 .ensures)
 
+-- each column has the next place
+next-place : (c : tie.Else4) → Fit (suc (proposed (made (equal (c .before))) .args .kept)) (call (proposed (made (equal (c .before)))) .lent .columns)
+next-place c = fit-less (c .if4 .left) (proposed (made (equal (c .before))) .pre .roomy .columns-fit)
+
 -- ---- the needs
 
 slice-reshare-prefix-propose : tie.Need-slice-reshare-prefix-propose
-slice-reshare-prefix-propose c = search needs
+slice-reshare-prefix-propose c = fit (entered c) .lefts
 
 slice-aggregate-propose : tie.Need-slice-aggregate-propose
 slice-aggregate-propose c = sym (long-lefts (entered (c .before)))
 
 slice-reshare-prefix-propose-2 : tie.Need-slice-reshare-prefix-propose-2
-slice-reshare-prefix-propose-2 c = search needs
+slice-reshare-prefix-propose-2 c = fit (entered (c .before)) .rights
 
 slice-aggregate-propose-2 : tie.Need-slice-aggregate-propose-2
 slice-aggregate-propose-2 c = sym (long-rights (entered (c .before .before)))
@@ -89,19 +99,25 @@ propose-requires : tie.Need-propose-requires
 propose-requires c κs =
     let s = entered (c .before .before) in
     let valid = s .pre .valid in
-    (valid .sized .states-fit, (valid .sized .some-letter, (valid .tabled, (long-lefts s ∙ sym (long-rights s), before-end s))))
+    record {
+      states-fit = valid .sized .states-fit;
+      some-letter = valid .sized .some-letter;
+      tabled = valid .tabled;
+      alike = long-lefts s ∙ sym (long-rights s);
+      remains = before-end s;
+    }
 
 cast-letter : tie.Need-cast-letter
 cast-letter c = omega (arith, letter-small (facing (c .before)))
 
 slice-reshare-prefix-congruent : tie.Need-slice-reshare-prefix-congruent
-slice-reshare-prefix-congruent c = search needs
+slice-reshare-prefix-congruent c = fit (asked c) .lefts
 
 slice-aggregate-congruent : tie.Need-slice-aggregate-congruent
 slice-aggregate-congruent c = sym (long-lefts (asked (c .before)))
 
 slice-reshare-prefix-congruent-2 : tie.Need-slice-reshare-prefix-congruent-2
-slice-reshare-prefix-congruent-2 c = search needs
+slice-reshare-prefix-congruent-2 c = fit (asked (c .before)) .rights
 
 slice-aggregate-congruent-2 : tie.Need-slice-aggregate-congruent-2
 slice-aggregate-congruent-2 c = sym (long-rights (asked (c .before .before)))
@@ -140,13 +156,13 @@ returns-2 c =
     deal-first (facing (made e)) (fresh e) (apart (c .before)) (c .if3 .taken)
 
 slice-reshare-prefix-spell : tie.Need-slice-reshare-prefix-spell
-slice-reshare-prefix-spell c = search needs
+slice-reshare-prefix-spell c = fit (proposed (differing c)) .parents
 
 slice-aggregate-spell : tie.Need-slice-aggregate-spell
 slice-aggregate-spell c = sym (long-parents (facing (differing (c .before))))
 
 slice-reshare-prefix-spell-2 : tie.Need-slice-reshare-prefix-spell-2
-slice-reshare-prefix-spell-2 c = search needs
+slice-reshare-prefix-spell-2 c = fit (proposed (differing (c .before))) .taken
 
 slice-aggregate-spell-2 : tie.Need-slice-aggregate-spell-2
 slice-aggregate-spell-2 c = sym (long-taken (facing (differing (c .before .before))))
@@ -193,13 +209,13 @@ mul-lefts : tie.Need-mul-lefts
 mul-lefts c = search needs
 
 slice-write-lefts : tie.Need-slice-write-lefts
-slice-write-lefts c = search needs
+slice-write-lefts c = next-place c .lefts
 
 mul-rights : tie.Need-mul-rights
 mul-rights c = search needs
 
 slice-write-rights : tie.Need-slice-write-rights
-slice-write-rights c = search needs
+slice-write-rights c = next-place c .rights
 
 cast-parents : tie.Need-cast-parents
 cast-parents c = omega (arith, parent-small (facing (made (equal (c .before)))))
@@ -208,10 +224,10 @@ mul-parents : tie.Need-mul-parents
 mul-parents c = search needs
 
 slice-write-parents : tie.Need-slice-write-parents
-slice-write-parents c = search needs
+slice-write-parents c = next-place c .parents
 
 slice-write-taken : tie.Need-slice-write-taken
-slice-write-taken c = search needs
+slice-write-taken c = next-place c .taken
 
 add-t40 : tie.Need-add-t40
 add-t40 c = search needs

@@ -1,13 +1,14 @@
--- `walk::run` makes the walk: one candidate after another, until an end.
+-- `comparison::run` makes the walk: one candidate after another, until an end.
 use mathlib.Core.Path.{ap, _∙_}
 use Prim.Native.Nat.{_+_, _-_, _*_, _^_, _<_}
 use native.Mathlib.Omega.{arith}
 use lib.ListN.{length}
 use borrow.Author.Needs.{needs}
-use Rattle.walk.specs.Answers.{lentOf, callOf}
-use Rattle.walk.proofs.Running.{Walking, walking-first, walking-ready, walking-on, walked-same, walked-different, walked-full, count-small, count-within, long-lefts, long-rights, long-parents, long-taken, quiet}
-use Rattle.walk.proofs.run.Statement.{statement}
-use Rattle.walk.proofs.run.Tie as tie
+use Rattle.walk.specs.Columns.{Field}
+use Rattle.comparison.specs.Answers.{lentOf, callOf}
+use Rattle.comparison.proofs.Running.{Walking, walking-first, walking-ready, walking-on, walked-same, walked-different, walked-full, count-small, count-within, long, quiet}
+use Rattle.comparison.proofs.run.Statement.{statement}
+use Rattle.comparison.proofs.run.Tie as tie
 
 abbrev Inv-loop : tie.InvT-loop
 Inv-loop states letters finals rows x y room lefts₀ rights₀ parents₀ taken₀ sequence₀ kept₀ examined₀ lefts rights parents taken sequence kept examined =
@@ -104,16 +105,16 @@ add-t31 : tie.Need-add-t31 Inv-loop μ-loop
 add-t31 c = omega (arith, one-more (c .before .before .before))
 
 same-length : tie.Need-same-length Inv-loop μ-loop
-same-length c = let k = c .before .before .before in lent-lefts k .lefts .given ∙ long-lefts (inv k)
+same-length c = let k = c .before .before .before in lent-lefts k .lefts .given ∙ long (inv k) Field.left
 
 same-length-2 : tie.Need-same-length-2 Inv-loop μ-loop
-same-length-2 c = let k = c .before .before .before in lent-rights k .rights .given ∙ long-rights (inv k)
+same-length-2 c = let k = c .before .before .before in lent-rights k .rights .given ∙ long (inv k) Field.right
 
 same-length-3 : tie.Need-same-length-3 Inv-loop μ-loop
-same-length-3 c = let k = c .before .before .before in lent-parents k .parents .given ∙ long-parents (inv k)
+same-length-3 c = let k = c .before .before .before in lent-parents k .parents .given ∙ long (inv k) Field.parent
 
 same-length-4 : tie.Need-same-length-4 Inv-loop μ-loop
-same-length-4 c = let k = c .before .before .before in lent-taken k .taken .given ∙ long-taken (inv k)
+same-length-4 c = let k = c .before .before .before in lent-taken k .taken .given ∙ long (inv k) Field.letter
 
 same-length-5 : tie.Need-same-length-5 Inv-loop μ-loop
 same-length-5 c = let k = c .before .before .before in lent-sequence k .sequence .given ∙ ap length (quiet (inv k))
@@ -130,16 +131,16 @@ add-t32 : tie.Need-add-t32 Inv-loop μ-loop
 add-t32 c = omega (arith, one-more (c .before .before))
 
 same-length-6 : tie.Need-same-length-6 Inv-loop μ-loop
-same-length-6 c = let k = c .before .before in lent-lefts k .lefts .given ∙ long-lefts (inv k)
+same-length-6 c = let k = c .before .before in lent-lefts k .lefts .given ∙ long (inv k) Field.left
 
 same-length-7 : tie.Need-same-length-7 Inv-loop μ-loop
-same-length-7 c = let k = c .before .before in lent-rights k .rights .given ∙ long-rights (inv k)
+same-length-7 c = let k = c .before .before in lent-rights k .rights .given ∙ long (inv k) Field.right
 
 same-length-8 : tie.Need-same-length-8 Inv-loop μ-loop
-same-length-8 c = let k = c .before .before in lent-parents k .parents .given ∙ long-parents (inv k)
+same-length-8 c = let k = c .before .before in lent-parents k .parents .given ∙ long (inv k) Field.parent
 
 same-length-9 : tie.Need-same-length-9 Inv-loop μ-loop
-same-length-9 c = let k = c .before .before in lent-taken k .taken .given ∙ long-taken (inv k)
+same-length-9 c = let k = c .before .before in lent-taken k .taken .given ∙ long (inv k) Field.letter
 
 same-length-10 : tie.Need-same-length-10 Inv-loop μ-loop
 same-length-10 c = let k = c .before .before in lent-sequence k .sequence .given ∙ ap length (quiet (inv k))
@@ -150,16 +151,16 @@ returns-2 c =
     walked-full (inv k) (dealt k .deal .ensures) (c .enum-told .given .1)
 
 same-length-11 : tie.Need-same-length-11 Inv-loop μ-loop
-same-length-11 c = long-lefts (c .before .loop .inv)
+same-length-11 c = long (c .before .loop .inv) Field.left
 
 same-length-12 : tie.Need-same-length-12 Inv-loop μ-loop
-same-length-12 c = long-rights (c .before .loop .inv)
+same-length-12 c = long (c .before .loop .inv) Field.right
 
 same-length-13 : tie.Need-same-length-13 Inv-loop μ-loop
-same-length-13 c = long-parents (c .before .loop .inv)
+same-length-13 c = long (c .before .loop .inv) Field.parent
 
 same-length-14 : tie.Need-same-length-14 Inv-loop μ-loop
-same-length-14 c = long-taken (c .before .loop .inv)
+same-length-14 c = long (c .before .loop .inv) Field.letter
 
 same-length-15 : tie.Need-same-length-15 Inv-loop μ-loop
 same-length-15 c = ap length (quiet (c .before .loop .inv))

@@ -1,0 +1,4 @@
+-- What the comparison answers and leaves, what its theorems speak of, and what only the private functions cite.
+pub mod Answers
+pub mod Meaning
+pub mod Inner
