@@ -32,33 +32,33 @@ compare-valid {c} p r (walks {o} f w) = low o
 
 honest : (c : Call) → Proper (c .question) → (o : Outcome) → Walk (c .question) (c .room) o → Honest c (answerOf o) (layOut (keptOf o) (wordOf o) (c .lent))
 honest c p (Same kept e) w =
-    let (all, fits) = counts (p .valid .sized) w in
+    let n = counts (p .valid .sized) w in
     record {
       same = λ z. same-means-same (p .valid .sized) w;
       different = λ z. absurd (omega arith);
       full = λ z. absurd (omega arith);
-      all-examined = λ z. all;
-      kept-fits = fits;
+      all-examined = λ z. n .by-answer;
+      kept-fits = n .fits;
       length-fits = omega arith;
     }
 honest c p (Different kept e u) w =
-    let (short, fits) = counts (p .valid .sized) w in
+    let n = counts (p .valid .sized) w in
     record {
       same = λ z. absurd (omega arith);
       different = λ z. rw (take-lay u (c .lent .sequence) (length u) refl) (different-means-different (p .valid .sized) w);
       full = λ z. absurd (omega arith);
       all-examined = λ z. absurd (omega arith);
-      kept-fits = fits;
-      length-fits = short;
+      kept-fits = n .fits;
+      length-fits = n .by-answer;
     }
 honest c p (Full kept e) w =
-    let all = counts (p .valid .sized) w in
+    let n = counts (p .valid .sized) w in
     record {
       same = λ z. absurd (omega arith);
       different = λ z. absurd (omega arith);
-      full = λ z. all;
+      full = λ z. n .by-answer;
       all-examined = λ z. absurd (omega arith);
-      kept-fits = omega arith;
+      kept-fits = n .fits;
       length-fits = omega arith;
     }
 

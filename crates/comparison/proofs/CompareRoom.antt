@@ -32,7 +32,7 @@ same-written kept word old new =
       sequence = take-lay word (old .sequence) (length word) refl ∙ sym (take-lay word (new .sequence) (length word) refl);
     }
 
-alike : (o : Outcome) (old new : Lent)
+pub alike : (o : Outcome) (old new : Lent)
     → SameWritten (valuesOf (answerOf o) .kept) (valuesOf (answerOf o) .length) (layOut (keptOf o) (wordOf o) old) (layOut (keptOf o) (wordOf o) new)
 alike (Same kept e) old new = same-written kept [] old new
 alike (Different kept e w) old new = same-written kept w old new
@@ -50,7 +50,7 @@ compare-more-room {more = more} {lent} {lent′} le (walks {o} f v) (walks {o = 
 
 -- ---- room enough, by a list that has every set reached from either start
 
-kept-is : (o : Outcome) → valuesOf (answerOf o) .kept ≡ length (keptOf o)
+pub kept-is : (o : Outcome) → valuesOf (answerOf o) .kept ≡ length (keptOf o)
 kept-is (Same kept e) = refl
 kept-is (Different kept e w) = refl
 kept-is (Full kept e) = refl

@@ -11,3 +11,4 @@ pub mod Running
 pub mod CompareDetermined
 pub mod CompareHonest
 pub mod CompareRoom
+pub mod FullExactly

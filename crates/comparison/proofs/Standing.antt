@@ -65,7 +65,7 @@ module _ (c : Columns) (n : ℕ) (r : Record) where
 -- ---- records laid
 
 module _ (kept : List Record) (old : Columns) where
-  laid : (x : Field) → column x (layColumns kept old) ≡ lay (map (value x) kept) (column x old)
+  pub laid : (x : Field) → column x (layColumns kept old) ≡ lay (map (value x) kept) (column x old)
   laid x = column-each (λ (y : Field) (xs : List ℕ). lay (map (value y) kept) xs) old x
 
   -- a record stored at the next place is laid over the columns as the others are

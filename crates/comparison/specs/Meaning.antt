@@ -3,14 +3,15 @@
 --   Honest        what an answer of 0, 1 or 2 means (demand 2)
 --   Quiet         what a refusal leaves: every number 0, all that is lent as it was
 --   SameWritten   two calls wrote the same records and the same sequence
+--   LessRoom      what a call in a smaller room answers and leaves, by what the larger one does
 use mathlib.Core.Path.{_≡_}
-use Prim.Native.Nat.{ℕ, _+_, _*_, _≤_}
+use Prim.Native.Nat.{ℕ, suc, _+_, _*_, _≤_, _<_}
 use lib.ListN.{length, take}
 use Rattle.verdict.specs.declared.Verdict.the-variants.{Against}
 use Rattle.sets.specs.Rooms.{maxRoom}
 use Rattle.pattern.specs.Language.{SameLanguage}
 use Rattle.walk.specs.Columns.{firsts, Fit}
-use Rattle.walk.specs.Meaning.{Tells}
+use Rattle.walk.specs.Meaning.{Tells, numberKept}
 use Rattle.comparison.specs.Answers.{numberOf, valuesOf, Lent, Call, compareTest}
 use Rattle.comparison.specs.declared.Answer.{Answer}
 
@@ -40,3 +41,8 @@ pub record Quiet (c : Call) (a : Answer) (later : Lent) : Type 0 where
 pub record SameWritten (kept length : ℕ) (l m : Lent) : Type 0 where
   pub columns : firsts kept (l .columns) ≡ firsts kept (m .columns)
   pub sequence : take length (l .sequence) ≡ take length (m .sequence)
+
+-- (a, l) by (b, m): the same if the room holds what is kept; else FULL with the first records, at the candidate that was kept next
+pub record LessRoom (letters room : ℕ) (b : Answer) (m : Lent) (a : Answer) (l : Lent) : Type 0 where
+  pub same : valuesOf b .kept ≤ room → (a ≡ b) × SameWritten (valuesOf b .kept) (valuesOf b .length) l m
+  pub full : room < valuesOf b .kept → (a ≡ Answer.Full room (suc (numberKept letters (m .columns) room))) × SameWritten room 0 l m

@@ -4,8 +4,8 @@ use mathlib.Core.List.{List, [], _∷_, _++_, append-assoc}
 use Prim.Native.Nat.{ℕ, suc, _+_, _≤_, _<_}
 use native.Mathlib.Numerals.{add-one}
 use native.Mathlib.Omega.{arith}
-use lib.ListN.{length, getD, take, drop, set, length-append, length-drop}
-use lib.Seq.{set-at, drop-cons, take-at, drop-at}
+use lib.ListN.{length, getD, take, drop, set, length-append, length-drop, List·getD-append}
+use lib.Seq.{set-at, drop-cons, take-append-le, take-at, drop-at}
 use Rattle.lent.specs.Lent.{lay}
 
 module _ {A : Type 0} where
@@ -22,6 +22,14 @@ module _ {A : Type 0} where
   pub take-lay : (values old : List A) (n : ℕ) → length values ≡ n → take n (lay values old) ≡ values
   unfolding lay
   take-lay values old n e = take-at values _ n e
+
+  pub take-lay-less : (values old : List A) (n : ℕ) → n ≤ length values → take n (lay values old) ≡ take n values
+  unfolding lay
+  take-lay-less values old n h = take-append-le n values _ h
+
+  pub getD-lay : (values old : List A) (d : A) (i : ℕ) → i < length values → getD (lay values old) i d ≡ getD values i d
+  unfolding lay
+  getD-lay values old d i h = List·getD-append values _ d i h
 
   -- the rest is as it was
   pub drop-lay : (values old : List A) (n : ℕ) → length values ≡ n → drop n (lay values old) ≡ drop n old

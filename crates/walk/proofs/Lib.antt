@@ -12,6 +12,8 @@ pub mod SameMeansSame
 pub mod DifferentMeansDifferent
 pub mod Counts
 pub mod MoreRoom
+pub mod LessRoom
+pub mod FullExactly
 pub mod RoomEnough
 -- the starred rows
 pub mod Closings

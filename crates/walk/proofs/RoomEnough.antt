@@ -148,4 +148,4 @@ module _ {Q : Question} {room : ℕ} {sets : List ℕ} (sized : Sized (Q .patter
   pub never-full : {kept : List Record} {e : ℕ} → length sets ≤ room + 1 → Walk Q room (Full kept e) → ⊥
   never-full h w =
       let g = few-full (sized .some-letter) covers (walk-sound sized w) (labelled w) (w .ends) in
-      omega (arith, g, counts sized w)
+      omega (arith, g, counts sized w .by-answer)

@@ -110,7 +110,7 @@ pub data Outcome : Type 0 where
   Different : List Record → ℕ → List ℕ → Outcome
   Full : List Record → ℕ → Outcome
 
--- the records and the sequence of an outcome; there is none but for DIFFERENT
+-- the parts of an outcome; there is no sequence but for DIFFERENT
 abbrev pub keptOf : Outcome → List Record
 keptOf (Same records examined) = records
 keptOf (Different records examined word) = records
@@ -120,6 +120,11 @@ abbrev pub wordOf : Outcome → List ℕ
 wordOf (Same records examined) = []
 wordOf (Different records examined word) = word
 wordOf (Full records examined) = []
+
+abbrev pub examinedOf : Outcome → ℕ
+examinedOf (Same records examined) = examined
+examinedOf (Different records examined word) = examined
+examinedOf (Full records examined) = examined
 
 -- no candidate is left: SAME
 -- 2. not congruent, and exactly one side accepts the empty sequence: stop, DIFFERENT
