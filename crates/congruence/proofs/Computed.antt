@@ -14,9 +14,9 @@ use Rattle.sets.specs.Sets.{Within}
 use Rattle.sets.proofs.Inclusion.{within-refl, within-trans, within-left, within-right, within-le, within-test}
 use Rattle.sets.proofs.Growing.{Stepped, Passed, took, left, stepped-both, passed-none, passed-more}
 use Rattle.congruence.specs.Congruence.{Congruent, Listed}
-use Rattle.congruence.specs.Closing.{Grows, Closed, Closes, Passes}
+use Rattle.congruence.specs.Closing.{Grows, Closed, Closes}
 use Rattle.congruence.specs.Closing.Grows.{nothing}
-use Rattle.congruence.proofs.Growth.{grown-on, grown-under, grown-within}
+use Rattle.congruence.proofs.Growth.{grown-on, grown-under}
 use Rattle.congruence.proofs.Passes.{Even, passed-closed}
 use Rattle.congruence.proofs.Deciding.{closing-decides}
 
@@ -52,10 +52,8 @@ module _ (ls rs : List ℕ) where
       let t = added-stepped b a _ (s .grown .keeps) (λ w. Grows.left (s .grown .keeps) pair w) in
       rw add-one at (passed-more i l p (stepped-both (λ k. Within b k → Within a k) s t))
 
-  pass-passes : (m : ℕ) → Passes (Listed ls rs) m (passed ls rs (length ls) m)
-  pass-passes m =
-      let p = passed-first m (length ls) (omega arith) in
-      record { grown = p .grown .keeps; still = passed-closed (omega arith) p }
+  whole : (m : ℕ) → Passed (Grows (Listed ls rs) m) (Even ls rs) (length ls) m (length ls) (passed ls rs (length ls) m)
+  whole m = passed-first m (length ls) (omega arith)
 
 -- ---- passes until one adds nothing
 
@@ -101,9 +99,9 @@ module _ (ls rs : List ℕ) (set : ℕ) where
   passes-closes zero false m g s l = absurd (omega (arith, l refl, within-le (under-top g)))
   passes-closes (suc f) false m g s l =
       let m′ = passed ls rs (length ls) m in
-      let p = pass-passes ls rs m in
-      passes-closes f (eqb m′ m) m′ (grown-on g (p .grown)) (λ e. p .still (eqb-true m′ m e))
-      (λ e. let n = eqb-false m′ m e in omega (arith, l refl, within-le (grown-within (p .grown))))
+      let p = whole ls rs m in
+      passes-closes f (eqb m′ m) m′ (grown-on g (p .grown .keeps)) (λ e. passed-closed (omega arith) p (eqb-true m′ m e))
+      (λ e. let n = eqb-false m′ m e in omega (arith, l refl, within-le (p .grown .within)))
 
   pub closing-closes : Closes (Listed ls rs) set (closing ls rs set)
   unfolding closing
