@@ -6,14 +6,14 @@ use native.Mathlib.Omega.{arith}
 use lib.ListN.{length, getD}
 use borrow.Author.Needs.{needs}
 use Rattle.sets.specs.Sets.{Within}
-use Rattle.sets.proofs.Growing.{Passed, took, left, stepped-both, passed-none, passed-more}
+use Rattle.sets.proofs.Growing.{Passed, took, passed-by, stepped-both, passed-none, passed-more}
 use Rattle.congruence.specs.Congruence.{Listed}
-use Rattle.congruence.proofs.Passes.{Held, Even, held-none, held-right, held-left, passed-closed}
+use Rattle.congruence.proofs.Passes.{Held, StillAt, held-none, held-right, held-left, passed-closed}
 use Rattle.congruence.proofs.pass.Statement.{statement}
 use Rattle.congruence.proofs.pass.Tie as tie
 
 abbrev Inv-loop : tie.InvT-loop
-Inv-loop lefts rights set goal mask₀ i₀ mask i = Passed (Held (Listed lefts rights) set) (Even lefts rights) (length lefts) set i mask
+Inv-loop lefts rights set goal mask₀ i₀ mask i = Passed (Held (Listed lefts rights) set) (StillAt lefts rights) (length lefts) set i mask
 
 abbrev μ-loop : tie.MeasureT-loop
 μ-loop lefts rights set goal mask₀ i₀ mask i = length lefts - i
@@ -74,13 +74,13 @@ loop-again c =
     let tried =
     ⊎-elim
     (λ w. took (held-right pair hb (first .within2 .ensures .sound (w .0 .taken)) (turn .loop .inv .grown .keeps)) (w .2 ∙ w .1 .ensures))
-    (λ w. left (turn .loop .inv .grown .keeps) (first .within2 .ensures .complete (w .0 .left)) (w .1))
+    (λ w. passed-by (turn .loop .inv .grown .keeps) (first .within2 .ensures .complete (w .0 .left)) (w .1))
     (second .before .if2 .came) in
     passed-more i (pair .below) (turn .loop .inv)
     (stepped-both (λ m. Within b m → Within a m) tried
     (⊎-elim
     (λ w. took (held-left pair ha (second .within3 .ensures .sound (w .0 .taken)) (tried .grown .keeps)) (w .2 ∙ w .1 .ensures))
-    (λ w. left (tried .grown .keeps) (second .within3 .ensures .complete (w .0 .left)) (w .1))
+    (λ w. passed-by (tried .grown .keeps) (second .within3 .ensures .complete (w .0 .left)) (w .1))
     (c .if3 .came)))
 
 returns-2 : tie.Need-returns-2 Inv-loop μ-loop
