@@ -1,5 +1,5 @@
 -- Closing as a function that computes: passes until one adds nothing. So congruence by a list of pairs is decided. Assumes nothing.
-use mathlib.Core.Path.{_≡_, refl, sym, _∙_}
+use mathlib.Core.Path.{_≡_, refl, sym}
 use mathlib.Core.Bool.{Bool, true, false, cond, true≢false}
 use mathlib.Core.List.{List, [], _∷_}
 use Prim.Native.Nat.{ℕ, zero, suc, _+_, _≤_, _<_}
@@ -11,7 +11,7 @@ use lib.Bits.{bitOr, bitAnd}
 use lib.Dec.{eqb}
 use borrow.Author.Tests.{eqb-true, eqb-false}
 use Rattle.sets.specs.Sets.{Within}
-use Rattle.sets.proofs.Inclusion.{within-refl, within-trans, within-left, within-right, within-le, within-test}
+use Rattle.sets.proofs.Inclusion.{within-trans, within-left, within-right, within-le, within-test}
 use Rattle.sets.proofs.Growing.{Stepped, Passed, took, passed-by, stepped-both, passed-none, passed-more}
 use Rattle.congruence.specs.Congruence.{Congruent, Listed}
 use Rattle.congruence.specs.Closing.{Grows, Closed, Closes}
