@@ -10,6 +10,9 @@ use Rattle.verdict.specs.Tests.{need, inOrder}
 use Rattle.pattern.specs.Pattern.{Pattern}
 use Rattle.pattern.specs.Tests.{shapeTest}
 use Rattle.pattern.specs.Judge.{letterTest}
+use Rattle.lent.specs.Lent.{Slice, before}
+use Rattle.congruence.specs.Congruence.{Congruent, Listed}
+use Rattle.congruence.specs.Closing.{Closes}
 use Rattle.probes.specs.declared.Probed.{Probed}
 
 pub record Probes (test : Verdict) (Right : ℕ → Type 0) (r : Probed) : Type 0 where
@@ -33,3 +36,13 @@ pub record Says (A : Type 0) (v : ℕ) : Type 0 where
   pub bound : v ≤ 1
   pub sound : v ≡ 1 → A
   pub complete : v ≡ 0 → A → ⊥
+
+-- ---- what is asked of a lent list of pairs
+
+-- the set, closed by the pairs
+abbrev pub ProbesClosing : Slice → Slice → ℕ → Probed → Type 0
+ProbesClosing lefts rights set r = Probes (sidesTest (before lefts) (before rights)) (λ v. Closes (Listed (before lefts) (before rights)) set v) r
+
+-- whether two sets are congruent by the pairs
+abbrev pub ProbesCongruence : Slice → Slice → ℕ → ℕ → Probed → Type 0
+ProbesCongruence lefts rights a b r = Probes (sidesTest (before lefts) (before rights)) (λ v. Says (Congruent (Listed (before lefts) (before rights)) a b) v) r

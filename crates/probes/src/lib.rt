@@ -8,10 +8,8 @@ ghost use Rattle.sets.specs.Sets.{Within, meets};
 ghost use Rattle.pattern.specs.Pattern.{patternOf};
 ghost use Rattle.pattern.specs.Tests.{patternTest};
 ghost use Rattle.pattern.specs.Language.{next};
-ghost use Rattle.congruence.specs.Congruence.{Congruent, Listed};
-ghost use Rattle.congruence.specs.Closing.{Closes};
 ghost use Rattle.numbers.specs.Numbers.{numberAt};
-ghost use Rattle.probes.specs.Probes.{Probes, Says, stateTest, nextTest, sidesTest};
+ghost use Rattle.probes.specs.Probes.{Probes, ProbesClosing, ProbesCongruence, stateTest, nextTest};
 ghost use Rattle.probes.specs.Numbers.{probedNumber, WritesNumber};
 use numbers::Number;
 use sets::States;
@@ -124,7 +122,7 @@ pub extern "C" fn probe_next(
 // A set closed by a list of pairs.
 #[no_mangle]
 pub extern "C" fn probe_close(lefts: &[u64], rights: &[u64], set: u64) -> Probed
-    ensures { λ r. ⌜ Probes (sidesTest (now (lefts .entry)) (now (rights .entry))) (λ v. Closes (Listed (now (lefts .entry)) (now (rights .entry))) set v) r ⌝ }
+    ensures { λ r. ⌜ ProbesClosing lefts rights set r ⌝ }
 {
     if lefts.len() == rights.len() {
         return Probed {
@@ -141,7 +139,7 @@ pub extern "C" fn probe_close(lefts: &[u64], rights: &[u64], set: u64) -> Probed
 // Whether two sets are congruent by a list of pairs: 1 or 0.
 #[no_mangle]
 pub extern "C" fn probe_congruent(lefts: &[u64], rights: &[u64], a: u64, b: u64) -> Probed
-    ensures { λ r. ⌜ Probes (sidesTest (now (lefts .entry)) (now (rights .entry))) (λ v. Says (Congruent (Listed (now (lefts .entry)) (now (rights .entry))) a b) v) r ⌝ }
+    ensures { λ r. ⌜ ProbesCongruence lefts rights a b r ⌝ }
 {
     if lefts.len() == rights.len() {
         if congruence::congruent(lefts, rights, a, b) {
