@@ -1,9 +1,9 @@
--- Tests and the lines that they go by: one test, tests in order, lines of one number. Assumes nothing.
+-- Tests and the lines that they go by: one test, tests in order, lines of one number, the numbers. Assumes nothing.
 use mathlib.Core.Path.{_≡_, refl, sym, ap, _∙_}
 use mathlib.Core.Logic.{_↔_, inl, inr}
 use mathlib.Core.Bool.{Bool, true}
 use mathlib.Core.List.{List, [], _∷_, List·Memᴰ}
-use mathlib.Core.List.List·Memᴰ.{List·Memᴰ·head}
+use mathlib.Core.List.List·Memᴰ.{List·Memᴰ·head, List·Memᴰ·tail}
 use Prim.Native.Nat.{ℕ}
 use Rattle.verdict.specs.declared.Verdict.{Verdict}
 use Rattle.verdict.specs.declared.Verdict.the-variants.{Fine, Against}
@@ -97,3 +97,18 @@ same-number {v} {A} {B} {C} front w rest c g = goes-by _ _ (λ e. holds front (g
     applies none u (inr (a, inr (b, p))) = inr (c .0 (a, b), p)
     applies (line x D more) u (inl p) = inl p
     applies (line x D more) u (inr (d, p)) = inr (d, applies more u p)
+
+-- ---- the numbers of the lines
+
+abbrev pub numbersOf : Lines → List ℕ
+numbersOf none = []
+numbersOf (line w A rest) = w ∷ numbersOf rest
+
+applies-among : (lines : Lines) (w : ℕ) → Applies lines w → List·Memᴰ w (numbersOf lines)
+applies-among none w p = absurd p
+applies-among (line u A rest) w (inl (f, e)) = List·Memᴰ·head e
+applies-among (line u A rest) w (inr (a, p)) = List·Memᴰ·tail (applies-among rest w p)
+
+-- what goes by the lines refuses only by their numbers
+pub lines-among : {lines : Lines} {v : Verdict} → GoesBy lines v → Among (numbersOf lines) v
+lines-among {lines} g = record { among = λ w e. applies-among lines w (g .against w .0 e) }
