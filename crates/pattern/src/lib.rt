@@ -178,10 +178,10 @@ fn reached(states: usize, letters: usize, rows: &[u64], set: u64, sequence: &[u8
     ensures { λ r. ⌜ ((finals : ℕ) → r ≡ reach (patternIn states letters finals rows) set (before sequence)) ⌝ }
 {
     let mut at = set;
-    let mut i = 0;
-    while i < sequence.len() {
-        at = next(states, letters, rows, at, wide(sequence[i]));
-        i += 1;
+    let mut read = 0;
+    while read < sequence.len() {
+        at = next(states, letters, rows, at, wide(sequence[read]));
+        read += 1;
     }
     at
 }
