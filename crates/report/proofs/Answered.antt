@@ -8,9 +8,9 @@ use Rattle.walk.specs.Walk.{Record, leftsOf, rightsOf, Outcome}
 use Rattle.walk.specs.Walk.Outcome.{Same, Different, Full}
 use Rattle.walk.specs.Answers.{Lent, answerOf, keptOf, wordOf, layOut}
 use Rattle.walk.proofs.Columns.{take-lay}
-use Rattle.text.specs.Text.{word, decimal, line}
+use Rattle.text.specs.Text.{word, decimal, line, refusalText}
 use Rattle.events.specs.Events.{eventName}
-use Rattle.report.specs.Report.{recordLines, textOf, refusalText}
+use Rattle.report.specs.Report.{recordLines, textOf}
 use Rattle.report.specs.Inner.{pairLines, answerText, Small}
 
 -- ---- by the cases of the code
