@@ -25,9 +25,17 @@ pub record Sized (n k : ℕ) : Type 0 where
   pub some-letter : 1 ≤ k
   pub letters-fit : k ≤ 32
 
+-- there are n * k rows
+abbrev pub Tabled : Pattern → Type 0
+Tabled P = length (P .rows) ≡ P .states * P .letters
+
+-- every mask of a list is a set of n states
+abbrev pub AllGood : ℕ → List ℕ → Type 0
+AllGood n masks = (i : ℕ) → i < length masks → Good n (getD masks i 0)
+
 -- a pattern that no call refuses: in range, with n * k rows, and every mask a set of its states
 pub record Valid (P : Pattern) : Type 0 where
   pub sized : Sized (P .states) (P .letters)
-  pub tabled : length (P .rows) ≡ P .states * P .letters
+  pub tabled : Tabled P
   pub finals-good : Good (P .states) (P .finals)
-  pub rows-good : (i : ℕ) → i < length (P .rows) → Good (P .states) (getD (P .rows) i 0)
+  pub rows-good : AllGood (P .states) (P .rows)

@@ -1,6 +1,5 @@
 // Patterns: their tests, their successor sets, and the judging of one sequence.
 ghost use mathlib.Core.Path.{_≡_};
-ghost use mathlib.Core.List.{List};
 ghost use Prim.Native.Nat.{ℕ, _*_, _≤_, _<_};
 ghost use lib.ListN.{length};
 ghost use Rattle.verdict.specs.Tests.{each};
