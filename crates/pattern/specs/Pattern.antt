@@ -3,6 +3,7 @@ use mathlib.Core.Path.{_≡_}
 use mathlib.Core.List.{List}
 use Prim.Native.Nat.{ℕ, _+_, _*_, _≤_, _<_}
 use lib.ListN.{length, getD}
+use Rattle.lent.specs.Lent.{Slice, before}
 use Rattle.sets.specs.Sets.{Good}
 
 pub record Pattern : Type 0 where
@@ -13,6 +14,10 @@ pub record Pattern : Type 0 where
 
 abbrev pub patternOf : ℕ → ℕ → ℕ → List ℕ → Pattern
 patternOf n k finals rows = record { states = n; letters = k; finals = finals; rows = rows }
+
+-- the pattern of a call that is lent its rows
+abbrev pub patternIn : ℕ → ℕ → ℕ → Slice → Pattern
+patternIn n k finals rows = patternOf n k finals (before rows)
 
 -- the set reached from state s by letter a
 abbrev pub row : Pattern → ℕ → ℕ → ℕ

@@ -1,10 +1,12 @@
--- Tests and the lines that they go by: one test, tests in order, lines of one number. Assumes nothing.
+-- Tests and the lines that they go by: one test, tests in order, lines of one number, the numbers. Assumes nothing.
 use mathlib.Core.Path.{_≡_, refl, sym, ap, _∙_}
 use mathlib.Core.Logic.{_↔_, inl, inr}
-use mathlib.Core.Bool.{Bool, true}
+use mathlib.Core.Bool.{Bool, true, not, _&&_, and-eq-true-iff}
 use mathlib.Core.List.{List, [], _∷_, List·Memᴰ}
-use mathlib.Core.List.List·Memᴰ.{List·Memᴰ·head}
+use mathlib.Core.List.List·Memᴰ.{List·Memᴰ·head, List·Memᴰ·tail}
 use Prim.Native.Nat.{ℕ}
+use lib.Dec.{eqb}
+use borrow.Author.Tests.{eqb-false, not-true}
 use Rattle.verdict.specs.declared.Verdict.{Verdict}
 use Rattle.verdict.specs.declared.Verdict.the-variants.{Fine, Against}
 use Rattle.verdict.specs.Tests.{need, inOrder, Among}
@@ -97,3 +99,44 @@ same-number {v} {A} {B} {C} front w rest c g = goes-by _ _ (λ e. holds front (g
     applies none u (inr (a, inr (b, p))) = inr (c .0 (a, b), p)
     applies (line x D more) u (inl p) = inl p
     applies (line x D more) u (inr (d, p)) = inr (d, applies more u p)
+
+-- ---- the numbers of the lines
+
+abbrev pub numbersOf : Lines → List ℕ
+numbersOf none = []
+numbersOf (line w A rest) = w ∷ numbersOf rest
+
+applies-among : (lines : Lines) (w : ℕ) → Applies lines w → List·Memᴰ w (numbersOf lines)
+applies-among none w p = absurd p
+applies-among (line u A rest) w (inl (f, e)) = List·Memᴰ·head e
+applies-among (line u A rest) w (inr (a, p)) = List·Memᴰ·tail (applies-among rest w p)
+
+-- what goes by the lines refuses only by their numbers
+pub lines-among : {lines : Lines} {v : Verdict} → GoesBy lines v → Among (numbersOf lines) v
+lines-among {lines} g = record { among = λ w e. applies-among lines w (g .against w .0 e) }
+
+-- the number is none of these
+abbrev pub lacks : ℕ → List ℕ → Bool
+lacks w [] = true
+lacks w (x ∷ xs) = not (eqb w x) && lacks w xs
+
+not-first : (w x : ℕ) (xs : List ℕ) → lacks w (x ∷ xs) ≡ true → w ≡ x → ⊥
+not-first w x xs e = eqb-false w x (not-true _ (and-eq-true-iff (not (eqb w x)) (lacks w xs) .0 e .0))
+
+not-later : (w x : ℕ) (xs : List ℕ) → lacks w (x ∷ xs) ≡ true → lacks w xs ≡ true
+not-later w x xs e = and-eq-true-iff (not (eqb w x)) (lacks w xs) .0 e .1
+
+lacking : (w : ℕ) (xs : List ℕ) → lacks w xs ≡ true → List·Memᴰ w xs → ⊥
+lacking w (x ∷ xs) e (List·Memᴰ·head d) = not-first w x xs e d
+lacking w (x ∷ xs) e (List·Memᴰ·tail m) = lacking w xs (not-later w x xs e) m
+
+-- a line that alone has its number is the first that applies exactly where no line before it applies and it does
+pub applies-exactly : {A : Type 0} (front : Lines) (w : ℕ) (rest : Lines) → lacks w (numbersOf front) ≡ true → lacks w (numbersOf rest) ≡ true
+    → Applies (joined front (line w A rest)) w ↔ (NoneApplies front × (A → ⊥))
+applies-exactly {A} front w rest before after = (to front before, λ p. later-applies front (line w A rest) w (p .0) (inl (p .1, refl)))
+  where
+    to : (front : Lines) → lacks w (numbersOf front) ≡ true → Applies (joined front (line w A rest)) w → NoneApplies front × (A → ⊥)
+    to none e (inl (f, d)) = (tt, f)
+    to none e (inr (a, p)) = absurd (lacking w (numbersOf rest) after (applies-among rest w p))
+    to (line u B more) e (inl (f, d)) = absurd (not-first w u (numbersOf more) e d)
+    to (line u B more) e (inr (b, p)) = let (q, f) = to more (not-later w u (numbersOf more) e) p in ((b, q), f)
