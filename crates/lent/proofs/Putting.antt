@@ -7,7 +7,7 @@ use native.Mathlib.Numerals.{add-one}
 use native.Mathlib.Omega.{arith}
 use lib.ListN.{length, take, drop, getD, set, length-append, length-drop, take-append-drop}
 use lib.Seq.{length-take-le, take-at, drop-at, drop-drop, drop-cons, set-split, append-snoc}
-use Rattle.lent.specs.Lent.{lay, layAt, Put}
+use Rattle.lent.specs.Lent.{lay, Put}
 use Rattle.lent.proofs.Laying.{lay-at-start, lay-at-parts}
 
 -- ---- what Put means

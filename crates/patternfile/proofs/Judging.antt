@@ -1,14 +1,14 @@
 -- The first pass over a file: each way out of it is what reading the pattern's numbers gives.
 use Prim.Native.Nat.{ℕ, _*_, _<_, _≤_}
 use mathlib.Core.List.{List, [], _∷_, _++_, append-assoc}
-use mathlib.Core.Path.{_≡_, sym, ap, _∙_, subst}
+use mathlib.Core.Logic.{inl}
+use mathlib.Core.Path.{_≡_, refl, sym, ap, _∙_, subst}
+use native.Mathlib.Omega.{arith}
 use lib.ListN.{length}
-use borrow.Author.Tests.{le-leb, lt-leb}
-use Rattle.verdict.specs.declared.Verdict.the-variants.{Fine, Against}
-use Rattle.verdict.proofs.Ordered.{need-holds, need-fails}
 use Rattle.pattern.specs.Pattern.{Sized}
-use Rattle.pattern.specs.Tests.{sizeTest, setTest, spaceTest}
-use Rattle.pattern.proofs.Validity.{sized-fine}
+use Rattle.pattern.specs.Tests.{sizeTest, setTest}
+use Rattle.pattern.proofs.Validity.{sized-fine, space-fine}
+use Rattle.pattern.proofs.Refusals.{space-line}
 use Rattle.numbers.specs.declared.Number.{Number}
 use Rattle.numbers.specs.declared.Number.the-variants.{Value, Fault}
 use Rattle.numbers.specs.Numbers.{numberAt}
@@ -21,16 +21,6 @@ use Rattle.patternfile.specs.declared.PatternPart.{PatternPart}
 use Rattle.patternfile.specs.declared.PatternPart.the-variants.{Whole}
 use Rattle.patternfile.specs.PatternFile.{startsThen, setsThen, afterLetters, patternThen, patternFormat}
 use Rattle.patternfile.specs.Parts.{Judges, passed, stoppedBy}
-
--- ---- the buffer lent
-
-pub room-enough : (room count : ℕ) → count ≤ room → spaceTest room count ≡ Fine
-unfolding spaceTest
-room-enough room count h = need-holds _ 14 (le-leb count room h)
-
-room-short : (room count : ℕ) → room < count → spaceTest room count ≡ Against 14
-unfolding spaceTest
-room-short room count h = need-fails _ 14 (lt-leb count room h)
 
 -- ---- numbers passed over
 
@@ -71,10 +61,10 @@ module _ (room : ℕ) (s : List ℕ) where
 
   module _ {us : List ℕ} (n k : ℕ) {at count : ℕ} (g : Reached (patternFormat room) s us (afterLetters room n k ended) at) (c : count ≡ n * k) where
     pub stop-room : room < count → reading (patternFormat room) s 0 ≡ refused 14 at
-    stop-room h = stopped-gate g (room-short room (n * k) (rw c at h))
+    stop-room h = stopped-gate g (space-line room (n * k) .against 14 .1 (inl (λ l. omega (arith, c), refl)))
 
     pub to-finals : count ≤ room → Reached (patternFormat room) s us (setsThen n k ended) at
-    to-finals h = reached-gate g (room-enough room (n * k) (rw c at h))
+    to-finals h = reached-gate g (space-fine room (n * k) .1 (rw c at h))
 
   module _ {us : List ℕ} (n k : ℕ) {at count : ℕ} (g : Reached (patternFormat room) s us (many (n * k) (setTest n) (startsThen n ended)) at) (c : count ≡ n * k)
       {d : Number} (ed : d ≡ passed count (reading (many count (setTest n) ended) s at)) where

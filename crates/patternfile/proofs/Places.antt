@@ -13,12 +13,12 @@ use borrow.Author.Tests.{leb-false}
 use Rattle.verdict.specs.declared.Verdict.the-variants.{Fine, Against}
 use Rattle.verdict.proofs.Ordered.{apart, need-against}
 use Rattle.sets.specs.Sets.{Good}
-use Rattle.pattern.specs.Pattern.{Pattern, patternOf}
+use Rattle.pattern.specs.Pattern.{patternOf}
 use Rattle.pattern.specs.Tests.{sizeTest, setTest, spaceTest}
 use Rattle.pattern.proofs.Validity.{size-fine, set-fine}
 use Rattle.numbers.specs.declared.Number.the-variants.{Value, Fault}
 use Rattle.numbers.specs.Numbers.{encode, numberAt, AreBytes}
-use Rattle.numbers.specs.Format.{Format, ended, item, many, refused, fileReading, encodeAll, Fits}
+use Rattle.numbers.specs.Format.{Format, ended, item, refused, fileReading, encodeAll, Fits}
 use Rattle.numbers.specs.Faults.{After, here, taken, through, StoppedBy, by-form, by-range, by-gate, by-tail, Stops}
 use Rattle.numbers.proofs.Groups.{one-byte}
 use Rattle.numbers.proofs.RoundTrip.{read-after-write}

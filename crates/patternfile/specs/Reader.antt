@@ -3,8 +3,8 @@
 --   Reads bytes old r new     the reader's promise: the answer r, and the buffer `new` where it was `old`; nothing is left open
 --                             (`reader-determined`), what is accepted is valid (`read-valid`), and a refusal stands where the scope says (`refusal-place`)
 --   ReadsFile bytes rows r    the same of the slices lent
---   numberOf r, valuesOf r    the number of an answer (`read-number`), and the values returned with it
---   IsRefusal r               the answer is a refusal
+--   numberOf r, valuesOf r    the number of an answer, and the values returned with it (`read-honest`)
+--   IsRefused r               the answer is a refusal
 use Prim.Native.Nat.{ℕ, _*_}
 use mathlib.Core.List.{List}
 use mathlib.Core.Path.{_≡_}
@@ -55,5 +55,6 @@ abbrev pub valuesOf : PatternRead → Values
 valuesOf (Done n k finals x y) = record { states = n; letters = k; finals = finals; x = x; y = y; place = 0 }
 valuesOf (Refused w place) = record { states = 0; letters = 0; finals = 0; x = 0; y = 0; place = place }
 
-pub data IsRefusal : PatternRead → Type 0 where
-  refusal : {w place : ℕ} → IsRefusal (Refused w place)
+abbrev pub IsRefused : PatternRead → Type 0
+IsRefused (Done n k finals x y) = ⊥
+IsRefused (Refused w place) = Unit {0}

@@ -4,8 +4,8 @@
 --   Writes P x y old r new   the writer's promise: the answer r, and the buffer `new` where it was `old`; nothing is left open (`writer-determined`),
 --                            and with the reader it goes round both ways (`read-after-write`, `write-after-read`)
 --   WritesFile ..            the same of the slices lent
---   numberOf r, countOf r    the number of an answer (`write-number`), and the byte count returned with it
---   IsRefusal r              the answer is a refusal
+--   numberOf r, countOf r    the number of an answer, and the byte count returned with it (`write-honest`)
+--   IsRefused r              the answer is a refusal
 use Prim.Native.Nat.{ℕ, _≤_}
 use mathlib.Core.List.{List, [], _∷_}
 use mathlib.Core.Path.{_≡_}
@@ -56,5 +56,6 @@ abbrev pub countOf : Written → ℕ
 countOf (Done count) = count
 countOf (Refused w) = 0
 
-pub data IsRefusal : Written → Type 0 where
-  refusal : {w : ℕ} → IsRefusal (Refused w)
+abbrev pub IsRefused : Written → Type 0
+IsRefused (Done count) = ⊥
+IsRefused (Refused w) = Unit {0}

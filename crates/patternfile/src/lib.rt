@@ -254,10 +254,10 @@ pub fn put_pattern(
     ensures { λ r. ⌜ PutsPattern out at states letters finals rows x y r ⌝ }
 {
     let head = [wide(states), wide(letters), finals];
-    let tail = [x, y];
+    let starts = [x, y];
     let at_rows = numbers::write_all(out, at, &head);
     let at_starts = numbers::write_all(out, at_rows, rows);
-    numbers::write_all(out, at_starts, &tail)
+    numbers::write_all(out, at_starts, &starts)
 }
 
 // Writes a pattern file.

@@ -1,7 +1,6 @@
 -- `patternfile::judge` goes through the format: at each place `Reached` says what has been read and what is still to be read.
 use Prim.Native.Nat.{ℕ, _*_}
 use mathlib.Core.List.{List, [], _∷_, _++_}
-use native.Mathlib.Omega.{arith}
 use borrow.Author.Needs.{needs}
 use Rattle.pattern.specs.Tests.{setTest}
 use Rattle.numbers.specs.Format.{ended, item, many}
