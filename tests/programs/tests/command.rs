@@ -196,9 +196,9 @@ fn help_says_every_status_and_builds_nothing() {
 #[test]
 fn it_may_be_called_through_links_from_anywhere() {
     let repository = Repository::new("link");
-    let elsewhere = repository.root.join("elsewhere");
-    fs::create_dir(&elsewhere).expect("a folder is made");
-    symlink("../bin/compare", elsewhere.join("near")).expect("a link is made");
+    let elsewhere = repository.root.join("some/where");
+    fs::create_dir_all(&elsewhere).expect("a folder is made");
+    symlink("../../bin/compare", elsewhere.join("near")).expect("a link is made");
     symlink("near", elsewhere.join("far")).expect("a link is made");
     fs::copy(example("first-answer"), elsewhere.join("question")).expect("a file is copied");
     let mut command = repository.command_at(Path::new("./far"));
