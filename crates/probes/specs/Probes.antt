@@ -7,8 +7,10 @@ use lib.Dec.{eqb, ltb}
 use Rattle.verdict.specs.declared.Verdict.{Verdict}
 use Rattle.verdict.specs.declared.Verdict.the-variants.{Fine, Against}
 use Rattle.verdict.specs.Tests.{need, inOrder}
-use Rattle.pattern.specs.Pattern.{Pattern}
+use Rattle.lent.specs.Lent.{Slice}
+use Rattle.pattern.specs.Pattern.{Pattern, patternIn}
 use Rattle.pattern.specs.Tests.{shapeTest}
+use Rattle.pattern.specs.Language.{next}
 use Rattle.pattern.specs.Judge.{letterTest}
 use Rattle.probes.specs.declared.Probed.{Probed}
 
@@ -23,6 +25,11 @@ stateTest s = need (ltb s 64) 12
 -- 10, 11, 15
 unfoldable pub nextTest : Pattern → ℕ → Verdict
 nextTest P a = inOrder (shapeTest P ∷ letterTest (P .letters) a ∷ [])
+
+-- the set that a letter takes a set to, whatever the finals are
+abbrev pub ProbesNext : ℕ → ℕ → Slice → ℕ → ℕ → Probed → Type 0
+ProbesNext n k rows set letter r =
+    (finals : ℕ) → Probes (nextTest (patternIn n k finals rows) letter) (λ v. v ≡ next (patternIn n k finals rows) set letter) r
 
 -- two sides of one length
 unfoldable pub sidesTest : List ℕ → List ℕ → Verdict

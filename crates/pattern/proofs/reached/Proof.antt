@@ -1,5 +1,4 @@
 -- `pattern::reached` follows the sequence letter by letter.
-use mathlib.Core.Path.{refl, _∙_, ap}
 use Prim.Native.Nat.{_-_}
 use borrow.Author.Needs.{needs}
 use native.Mathlib.Omega.{arith}
