@@ -11,3 +11,5 @@ pub mod Running
 pub mod CompareDetermined
 pub mod CompareHonest
 pub mod CompareRoom
+-- the starred rows
+pub mod KnownCalls
