@@ -12,3 +12,5 @@ pub mod CompareDetermined
 pub mod CompareHonest
 pub mod CompareRoom
 pub mod FullExactly
+-- the starred rows
+pub mod KnownCalls

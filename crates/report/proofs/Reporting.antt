@@ -21,7 +21,7 @@ use Rattle.walk.specs.Meaning.{Proper}
 use Rattle.comparison.specs.Meaning.{Roomy}
 use Rattle.comparison.proofs.Asking.{compare-fine}
 use Rattle.verdict.proofs.Ordered.{apart}
-use Rattle.comparison.proofs.CompareHonest.{compare-valid, compare-honest}
+use Rattle.comparison.proofs.CompareHonest.{compare-honest}
 use Rattle.lent.specs.Lent.{lay, Put}
 use Rattle.lent.proofs.Putting.{put-length, put-as}
 use Rattle.text.specs.Text.{refusalText}
@@ -103,7 +103,7 @@ module _ {input rows : List ℕ} {n k f x y : ℕ} {new : List ℕ} (t : Accepte
 
     pub answer-small : Small answer
     answer-small =
-        let told = compare-honest compared (compare-valid proper roomy compared) in
+        let told = compare-honest compared in
         record { few = told .kept-fits; short = omega (arith, told .length-fits, told .kept-fits) }
 
     pub answer-reported : {old : List ℕ} {r : ℕ} {out : List ℕ} → Put old 0 (answerText answer (l .columns .lefts) (l .columns .rights) (l .sequence)) r out
