@@ -9,11 +9,10 @@ use lib.Dec.{eqb}
 use borrow.Author.Tests.{eqb-false, not-true}
 use Rattle.verdict.specs.declared.Verdict.{Verdict}
 use Rattle.verdict.specs.declared.Verdict.the-variants.{Fine, Against}
-use Rattle.verdict.specs.Tests.{need, inOrder, Among}
+use Rattle.verdict.specs.Tests.{inOrder, Among}
 use Rattle.verdict.specs.Lines.{Lines, NoneApplies, Applies, GoesBy}
 use Rattle.verdict.specs.Lines.Lines.{none, line}
-use Rattle.verdict.proofs.Ordered.{apart, need-holds, need-fine, order-both, order-stop, order-next}
-use Rattle.verdict.proofs.Numbered.{among-need}
+use Rattle.verdict.proofs.Ordered.{apart, order-both, order-stop, order-next}
 
 -- ---- the first line that applies is one
 
@@ -44,9 +43,6 @@ only (List·Memᴰ·head e) = e
 -- a test that refuses by one number, and has nothing against it exactly where A holds
 pub one-line : {v : Verdict} {w : ℕ} {A : Type 0} → Among (w ∷ []) v → (v ≡ Fine) ↔ A → GoesBy (line w A none) v
 one-line {v} {w} {A} among fine = goes-by _ v (λ e. (fine .0 e, tt)) (λ u e. inl (λ a. apart (fine .1 a) e, only (among .among u e)))
-
-pub need-line : {A : Type 0} (b : Bool) (w : ℕ) → (b ≡ true) ↔ A → GoesBy (line w A none) (need b w)
-need-line b w h = one-line (among-need (w ∷ []) b w (List·Memᴰ·head refl)) (λ e. h .0 (need-fine b w e), λ a. need-holds b w (h .1 a))
 
 -- ---- tests in order
 
