@@ -57,6 +57,7 @@ module _ (room : ℕ) (P : Pattern) (x y : ℕ) where
   pub fits-contents : length (P .rows) ≡ n * k → Fits (patternFormat room) (numbersOf P x y) → Contents room P x y
   unfolding patternFormat patternThen Fits
   fits-contents t h =
+      let room-first : spaceTest room (n * k) ≡ Fine = h .2 .2 .0 in
       let m : FitsMany (n * k) (setTest n) (startsThen n ended) (P .rows ++ (x ∷ y ∷ [])) = fits-many (n * k) (setTest n) (startsThen n ended) (P .rows ++ (x ∷ y ∷ [])) (h .2 .2 .1 .2) in
       let rows : Fits (many (n * k) (setTest n) ended) (P .rows) = subst (λ (l : List ℕ). Fits (many (n * k) (setTest n) ended) l) (take-at (P .rows) (x ∷ y ∷ []) (n * k) t) (m .first) in
       let starts : Fits (startsThen n ended) (x ∷ y ∷ []) = subst (λ (l : List ℕ). Fits (startsThen n ended) l) (drop-at (P .rows) (x ∷ y ∷ []) (n * k) t) (m .rest) in
@@ -68,7 +69,7 @@ module _ (room : ℕ) (P : Pattern) (x y : ℕ) where
               finals-good = set-fine n (P .finals) .0 (h .2 .2 .1 .1);
               rows-good = λ i l. set-fine n (getD (P .rows) i 0) .0 (many-fine (n * k) (setTest n) (P .rows) rows i l);
             };
-        enough = space-fine room (n * k) .0 (h .2 .2 .0);
+        enough = space-fine room (n * k) .0 room-first;
         rows-fit = rows;
         good-x = set-fine n x .0 (starts .1);
         good-y = set-fine n y .0 (starts .2 .1);

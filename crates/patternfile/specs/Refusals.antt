@@ -11,7 +11,7 @@ use Rattle.verdict.specs.Lines.{Lines}
 use Rattle.verdict.specs.Lines.Lines.{none, line}
 use Rattle.sets.specs.Sets.{Good}
 use Rattle.pattern.specs.Pattern.{Pattern}
-use Rattle.pattern.specs.Refusals.{patternLines}
+use Rattle.pattern.specs.Refusals.{MasksGood, shapeLines}
 use Rattle.numbers.specs.declared.Number.the-variants.{Value}
 use Rattle.numbers.specs.Numbers.{numberAt}
 use Rattle.numbers.specs.Faults.{EndsEarly, BadlyWritten}
@@ -32,8 +32,10 @@ pub data RefusedAt (room : ℕ) (s : List ℕ) : ℕ → ℕ → Type 0 where
   -- 22 TAIL: at the first byte behind what is a whole file
   tail : {place : ℕ} (P : Pattern) (x y : ℕ) → place < length s → FileOf room (take place s) P x y → RefusedAt room s 22 place
 
+-- 10, 11, 12, 14
 abbrev pub writeLines : Pattern → ℕ → ℕ → ℕ → Lines
-writeLines P x y room = patternLines P (line 12 (Good (P .states) x) (line 12 (Good (P .states) y) (line 14 (length (fileBytes P x y) ≤ room) none)))
+writeLines P x y room =
+    shapeLines P (line 12 (MasksGood P × Good (P .states) x × Good (P .states) y) (line 14 (length (fileBytes P x y) ≤ room) none))
 
 abbrev pub readNumbers : List ℕ
 readNumbers = 10 ∷ 12 ∷ 14 ∷ 20 ∷ 21 ∷ 22 ∷ []
