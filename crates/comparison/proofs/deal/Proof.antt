@@ -78,10 +78,6 @@ apart c e = flags-differ _ _ (c .if2 .taken) (c .before .before .meets .ensures 
 alike : (c : tie.Else2) → Alike (facing (made (equal c)))
 alike c = sym (c .before .before .meets .ensures) ∙ flags-agree _ _ (c .if2 .left) ∙ c .before .meets2 .ensures
 
--- each column has the next place
-next-place : (c : tie.Else4) → Fit (suc (proposed (made (equal (c .before))) .args .kept)) (call (proposed (made (equal (c .before)))) .lent .columns)
-next-place c = fit-less (c .if4 .left) (proposed (made (equal (c .before))) .pre .roomy .columns-fit)
-
 -- ---- the needs
 
 slice-reshare-prefix-propose : tie.Need-slice-reshare-prefix-propose
@@ -205,6 +201,10 @@ returns-4 : tie.Need-returns-4
 returns-4 c =
     let e = equal (c .before) in
     deal-full (facing (made e)) (fresh e) (alike (c .before)) (c .if4 .taken)
+
+-- each column has the next place
+next-place : (c : tie.Else4) → Fit (suc (proposed (made (equal (c .before))) .args .kept)) (call (proposed (made (equal (c .before)))) .lent .columns)
+next-place c = fit-less (c .if4 .left) (proposed (made (equal (c .before))) .pre .roomy .columns-fit)
 
 mul-lefts : tie.Need-mul-lefts
 mul-lefts c = search needs
