@@ -18,7 +18,7 @@ use Rattle.walk.proofs.SameMeansSame.{same-means-same}
 use Rattle.walk.proofs.DifferentMeansDifferent.{different-means-different}
 use Rattle.walk.proofs.Counts.{counts}
 use Rattle.walk.proofs.FullExactly.{full-exactly}
-use Rattle.comparison.specs.Answers.{numberOf, valuesOf, Lent, Call, compareTest, answerOf, layOut, Compared}
+use Rattle.comparison.specs.Answers.{numberOf, Lent, Call, compareTest, answerOf, layOut, Compared}
 use Rattle.comparison.specs.Answers.Compared.{refuses, walks}
 use Rattle.comparison.specs.Meaning.{IsRefused, Comparable, compareLines, Honest, Quiet}
 use Rattle.comparison.specs.declared.Answer.{Answer}
