@@ -1,27 +1,30 @@
--- The tests of a comparison: their order, that nothing is against a call exactly where the question is proper and the room is there, and that
--- what is against it is 10 or more. Assumes nothing.
+-- The tests of a comparison: their order, and that a call is refused exactly where a line applies, by the first, and only by 10, 11, 13, 12.
+-- Assumes nothing.
 use mathlib.Core.Path.{_≡_, refl, _∙_}
 use mathlib.Core.Logic.{_↔_}
-use mathlib.Core.Bool.{Bool, true, false}
 use mathlib.Core.List.{List, [], _∷_, map, List·Memᴰ}
 use mathlib.Core.List.List·Memᴰ.{List·Memᴰ·head, List·Memᴰ·tail}
 use Prim.Native.Nat.{ℕ, _≤_}
-use native.Mathlib.Omega.{arith}
 use lib.ListN.{length}
 use lib.Dec.{leb}
 use borrow.Author.Tests.{leb-true, le-leb}
 use Rattle.verdict.specs.declared.Verdict.{Verdict}
 use Rattle.verdict.specs.declared.Verdict.the-variants.{Fine, Against}
-use Rattle.verdict.specs.Tests.{need, inOrder, each}
+use Rattle.verdict.specs.Tests.{need, inOrder, each, Among}
+use Rattle.verdict.specs.Lines.{NoneApplies, GoesBy}
+use Rattle.verdict.specs.Lines.Lines.{none, line}
 use Rattle.verdict.proofs.Ordered.{need-holds, need-fine, order-fine, order-stop, order-next, order-last}
+use Rattle.verdict.proofs.Numbered.{among-need, among-each, among-from}
+use Rattle.verdict.proofs.Lines.{one-line, no-lines, lines-then, same-number, lines-among}
 use Rattle.sets.specs.Rooms.{maxRoom}
-use Rattle.pattern.specs.Tests.{sizeTest, tableTest, setTest, shapeTest, masksTest}
-use Rattle.pattern.proofs.Validity.{set-fine, shape-fine, masks-fine}
+use Rattle.pattern.specs.Tests.{setTest, shapeTest, masksTest}
+use Rattle.pattern.specs.Refusals.{shapeLines}
+use Rattle.pattern.proofs.Refusals.{set-line, masks-line, shape-lines}
+use Rattle.walk.specs.Walk.{Question}
 use Rattle.walk.specs.Columns.{lengths}
-use Rattle.walk.specs.Meaning.{Proper}
 use Rattle.walk.proofs.Columns.{fit-at, fit-by, in-lengths, of-lengths}
 use Rattle.comparison.specs.Answers.{Lent, Call, roomTest, compareTest}
-use Rattle.comparison.specs.Meaning.{Roomy}
+use Rattle.comparison.specs.Meaning.{Roomy, Comparable, SidesGood, compareLines}
 
 -- ---- the order: 10 and 11, then 13, then 12
 
@@ -52,7 +55,7 @@ module _ (c : Call) where
   unfolding compareTest
   right-decides shape room masks left = order-next _ _ shape ∙ order-next _ _ room ∙ order-next _ _ masks ∙ order-next _ _ left ∙ order-last _
 
--- ---- nothing is against a call
+-- ---- the room
 
 -- a test of each value has nothing against it exactly where it has nothing against any of them
 each-in : (test : ℕ → Verdict) {values : List ℕ} {v : ℕ} → each test values ≡ Fine → List·Memᴰ v values → test v ≡ Fine
@@ -94,74 +97,43 @@ room-fine room lent = (to, fro)
     fro : Roomy room lent → roomTest room lent ≡ Fine
     fro r = each-all _ _ (λ most m. bound-fine room most .1 (within r m))
 
-pub compare-fine : (c : Call) → (compareTest c ≡ Fine) ↔ (Proper (c .question) × Roomy (c .room) (c .lent))
-unfolding compareTest
-compare-fine c = (to, fro)
+-- ---- exactly where a line applies
+
+room-line : (room : ℕ) (lent : Lent) → GoesBy (line 13 (Roomy room lent) none) (roomTest room lent)
+unfolding roomTest
+room-line room lent = one-line among (room-fine room lent)
   where
-    to : compareTest c ≡ Fine → Proper (c .question) × Roomy (c .room) (c .lent)
-    to e =
-        let (shape, (room, (masks, (left, (right, _))))) = order-fine _ .0 e in
-        let (sized, tabled) = shape-fine _ .0 shape in
-        let (finals, rows) = masks-fine _ .0 masks in (
-          record {
-            valid = record { sized = sized; tabled = tabled; finals-good = finals; rows-good = rows };
-            left-good = set-fine _ _ .0 left;
-            right-good = set-fine _ _ .0 right;
-          },
-          room-fine _ _ .0 room,
-        )
+    among : Among (13 ∷ []) (roomTest room lent)
+    among = among-each (13 ∷ []) _ (λ most. among-need (13 ∷ []) _ 13 (List·Memᴰ·head refl)) _
 
-    fro : Proper (c .question) × Roomy (c .room) (c .lent) → compareTest c ≡ Fine
-    fro (p, r) =
-        let v = p .valid in
-        order-fine _ .1 (
-          shape-fine _ .1 (v .sized, v .tabled),
-          (room-fine _ _ .1 r, (masks-fine _ .1 (v .finals-good, v .rows-good), (set-fine _ _ .1 (p .left-good), (set-fine _ _ .1 (p .right-good), tt)))),
-        )
+sides-line : (Q : Question) → GoesBy (line 12 (SidesGood Q) none) (inOrder (setTest (Q .pattern .states) (Q .left) ∷ setTest (Q .pattern .states) (Q .right) ∷ []))
+sides-line Q = same-number none 12 none (λ p. p, λ p. p) (lines-then _ (set-line _ _) (lines-then _ (set-line _ _) no-lines))
 
--- ---- refusals are 10 and up
+module _ (c : Call) where
+  -- a call is refused exactly where a line applies, by the first
+  pub compare-lines : GoesBy (compareLines c) (compareTest c)
+  unfolding compareTest
+  compare-lines =
+      same-number (shapeLines (c .question .pattern) (line 13 (Roomy (c .room) (c .lent)) none)) 12 none (λ p. p, λ p. p)
+      (lines-then _ (shape-lines _) (lines-then _ (room-line _ _) (lines-then _ (masks-line _) (sides-line (c .question)))))
 
-record High (v : Verdict) : Type 0 where
-  least : (number : ℕ) → v ≡ Against number → 10 ≤ number
+  pub compare-among : Among (10 ∷ 11 ∷ 13 ∷ 12 ∷ []) (compareTest c)
+  compare-among = lines-among compare-lines
 
-data AllHigh : List Verdict → Type 0 where
-  none : AllHigh []
-  more : {v : Verdict} {tests : List Verdict} → High v → AllHigh tests → AllHigh (v ∷ tests)
+  pub refusal-number : {number : ℕ} → compareTest c ≡ Against number → 10 ≤ number
+  refusal-number e = among-from 10 refl compare-among e
 
-high-fine : High Fine
-high-fine = record { least = λ number e. absurd (let z : _≡_ {A = ℕ} 0 1 = cc in omega arith) }
+  -- and not where the question is valid and the room is there
+  pub compare-fine : (compareTest c ≡ Fine) ↔ Comparable c
+  compare-fine = (λ e. to (compare-lines .fine .0 e), λ p. compare-lines .fine .1 (fro p))
+    where
+      to : NoneApplies (compareLines c) → Comparable c
+      to (sized, (tabled, (roomy, (((finals, rows), (left, right)), _)))) = (
+        record { valid = record { sized = sized; tabled = tabled; finals-good = finals; rows-good = rows }; left-good = left; right-good = right },
+        roomy,
+      )
 
-high-need : (b : Bool) (w : ℕ) → 10 ≤ w → High (need b w)
-unfolding need
-high-need true w h = high-fine
-high-need false w h = record { least = λ number e. let z : w ≡ number = cc in omega arith }
-
-high-order : {tests : List Verdict} → AllHigh tests → High (inOrder tests)
-unfolding inOrder
-high-order none = high-fine
-high-order (more {v = Fine} h hs) = high-order hs
-high-order (more {v = Against w} h hs) = h
-
-high-each : (test : ℕ → Verdict) → ((x : ℕ) → High (test x)) → (xs : List ℕ) → High (each test xs)
-unfolding each
-high-each test f xs = high-order (all xs)
-  where
-    all : (xs : List ℕ) → AllHigh (map test xs)
-    all [] = none
-    all (x ∷ xs) = more (f x) (all xs)
-
-pub refusal-number : (c : Call) {number : ℕ} → compareTest c ≡ Against number → 10 ≤ number
-unfolding compareTest shapeTest sizeTest tableTest roomTest masksTest setTest
-refusal-number c {number} e = high-order (more shape (more room (more masks (more (one-set _) (more (one-set _) none))))) .least number e
-  where
-    one-set : (mask : ℕ) → High (setTest (c .question .pattern .states) mask)
-    one-set mask = high-need _ 12 (omega arith)
-
-    shape : High (shapeTest (c .question .pattern))
-    shape = high-order (more (high-need _ 10 (omega arith)) (more (high-need _ 10 (omega arith)) (more (high-need _ 11 (omega arith)) none)))
-
-    room : High (roomTest (c .room) (c .lent))
-    room = high-each _ (λ most. high-need _ 13 (omega arith)) _
-
-    masks : High (masksTest (c .question .pattern))
-    masks = high-order (more (one-set _) (more (high-each _ one-set _) none))
+      fro : Comparable c → NoneApplies (compareLines c)
+      fro (p, roomy) =
+          let v = p .valid in
+          (v .sized, (v .tabled, (roomy, (((v .finals-good, v .rows-good), (p .left-good, p .right-good)), tt))))

@@ -1,6 +1,5 @@
 -- What `deal` leaves in each of its five ways out, over plain lists. Assumes nothing.
 use mathlib.Core.Path.{_≡_, refl, sym, ap, _∙_, subst}
-use mathlib.Core.Bool.{Bool, true, false, not, Bool·beq, false≢true}
 use mathlib.Core.List.{List, [], _∷_, _++_}
 use Prim.Native.Nat.{ℕ, zero, suc, _+_, _≤_, _<_}
 use native.Mathlib.Nat.{mod-lt}
@@ -175,23 +174,3 @@ module _ {c : Call} {n e : ℕ} (here : Facing c n e) where
       let w = way-there z in
       let (er, es) = s .all (w .word) (w .path) in
       rw (es, er, ← length-append (w .word) (here .made .letter ∷ [])) (told (w .word) f a z (w .path))
-
--- ---- the test `a != b` on two flags
-
-pub flags-same : {u v : Bool} (a b : Bool) → not (Bool·beq a b) ≡ false → a ≡ u → b ≡ v → u ≡ v
-flags-same a b t p q = sym p ∙ go a b t ∙ q
-  where
-    go : (a b : Bool) → not (Bool·beq a b) ≡ false → a ≡ b
-    go true true e = refl
-    go true false e = e
-    go false true e = sym e
-    go false false e = refl
-
-pub flags-other : {u v : Bool} (a b : Bool) → not (Bool·beq a b) ≡ true → a ≡ u → b ≡ v → u ≡ v → ⊥
-flags-other a b t p q r = go a b t (p ∙ r ∙ sym q)
-  where
-    go : (a b : Bool) → not (Bool·beq a b) ≡ true → a ≡ b → ⊥
-    go true true e z = false≢true e
-    go true false e z = false≢true (sym z)
-    go false true e z = false≢true z
-    go false false e z = false≢true e

@@ -11,4 +11,6 @@ pub mod Running
 pub mod CompareDetermined
 pub mod CompareHonest
 pub mod CompareRoom
-pub mod FullExactly
+pub mod CompareLessRoom
+-- the starred rows
+pub mod KnownCalls

@@ -1,5 +1,5 @@
--- Closing as a function that computes: passes until one adds nothing. So congruence by a list is decided. Assumes nothing.
-use mathlib.Core.Path.{_≡_, refl, sym, _∙_}
+-- Closing as a function that computes: passes until one adds nothing. So congruence by a list of pairs is decided. Assumes nothing.
+use mathlib.Core.Path.{_≡_, refl, sym}
 use mathlib.Core.Bool.{Bool, true, false, cond, true≢false}
 use mathlib.Core.List.{List, [], _∷_}
 use Prim.Native.Nat.{ℕ, zero, suc, _+_, _≤_, _<_}
@@ -11,13 +11,13 @@ use lib.Bits.{bitOr, bitAnd}
 use lib.Dec.{eqb}
 use borrow.Author.Tests.{eqb-true, eqb-false}
 use Rattle.sets.specs.Sets.{Within}
-use Rattle.sets.proofs.Inclusion.{within-refl, within-trans, within-left, within-right, within-le, within-test}
-use Rattle.sets.proofs.Growing.{Stepped, Passed, took, left, stepped-both, passed-none, passed-more}
+use Rattle.sets.proofs.Inclusion.{within-trans, within-left, within-right, within-le, within-test}
+use Rattle.sets.proofs.Growing.{Stepped, Passed, took, passed-by, stepped-both, passed-none, passed-more}
 use Rattle.congruence.specs.Congruence.{Congruent, Listed}
-use Rattle.congruence.specs.Closing.{Grows, Closed, Closes, Passes}
-use Rattle.congruence.specs.Closing.Grows.{nothing}
-use Rattle.congruence.proofs.Growth.{grown-on, grown-under, grown-within}
-use Rattle.congruence.proofs.Passes.{Even, passed-closed}
+use Rattle.congruence.specs.Closing.{Grows, Closed, Closes}
+use Rattle.congruence.specs.Closing.Grows.{nothing, right, left}
+use Rattle.congruence.proofs.Growth.{grown-on, grown-under}
+use Rattle.congruence.proofs.Passes.{StillAt, passed-closed}
 use Rattle.congruence.proofs.Deciding.{closing-decides}
 
 -- ---- one pass
@@ -37,10 +37,10 @@ added-stepped {Keeps} a b m k f = pick (eqb (bitAnd a m) a) refl
   where
     pick : (t : Bool) → eqb (bitAnd a m) a ≡ t → Stepped Keeps (Within a m → Within b m) m (cond t (bitOr b m) m)
     pick true e = took (f (within-test a m .0 (eqb-true _ _ e))) refl
-    pick false e = left k (λ w. eqb-false _ _ e (within-test a m .1 w)) refl
+    pick false e = passed-by k (λ w. eqb-false _ _ e (within-test a m .1 w)) refl
 
 module _ (ls rs : List ℕ) where
-  passed-first : (m i : ℕ) → i ≤ length ls → Passed (Grows (Listed ls rs) m) (Even ls rs) (length ls) m i (passed ls rs i m)
+  passed-first : (m i : ℕ) → i ≤ length ls → Passed (Grows (Listed ls rs) m) (StillAt ls rs) (length ls) m i (passed ls rs i m)
   unfolding passed
   passed-first m zero l = passed-none nothing
   passed-first m (suc i) l =
@@ -48,18 +48,16 @@ module _ (ls rs : List ℕ) where
       let a = getD ls i 0 in
       let b = getD rs i 0 in
       let pair : Listed ls rs a b = record { at = i; below = l; left = refl; right = refl } in
-      let s = added-stepped a b (passed ls rs i m) (p .grown .keeps) (λ w. Grows.right (p .grown .keeps) pair w) in
-      let t = added-stepped b a _ (s .grown .keeps) (λ w. Grows.left (s .grown .keeps) pair w) in
+      let s = added-stepped a b (passed ls rs i m) (p .grown .keeps) (λ w. right (p .grown .keeps) pair w) in
+      let t = added-stepped b a _ (s .grown .keeps) (λ w. left (s .grown .keeps) pair w) in
       rw add-one at (passed-more i l p (stepped-both (λ k. Within b k → Within a k) s t))
 
-  pass-passes : (m : ℕ) → Passes (Listed ls rs) m (passed ls rs (length ls) m)
-  pass-passes m =
-      let p = passed-first m (length ls) (omega arith) in
-      record { grown = p .grown .keeps; still = passed-closed (omega arith) p }
+  whole : (m : ℕ) → Passed (Grows (Listed ls rs) m) (StillAt ls rs) (length ls) m (length ls) (passed ls rs (length ls) m)
+  whole m = passed-first m (length ls) (omega arith)
 
 -- ---- passes until one adds nothing
 
--- from m on, which a pass may have left as it was
+-- from m on; ended where the last pass added nothing
 unfoldable pub passes : ℕ → Bool → List ℕ → List ℕ → ℕ → ℕ
 passes zero ended ls rs m = m
 passes (suc f) true ls rs m = m
@@ -101,9 +99,9 @@ module _ (ls rs : List ℕ) (set : ℕ) where
   passes-closes zero false m g s l = absurd (omega (arith, l refl, within-le (under-top g)))
   passes-closes (suc f) false m g s l =
       let m′ = passed ls rs (length ls) m in
-      let p = pass-passes ls rs m in
-      passes-closes f (eqb m′ m) m′ (grown-on g (p .grown)) (λ e. p .still (eqb-true m′ m e))
-      (λ e. let n = eqb-false m′ m e in omega (arith, l refl, within-le (grown-within (p .grown))))
+      let p = whole ls rs m in
+      passes-closes f (eqb m′ m) m′ (grown-on g (p .grown .keeps)) (λ e. passed-closed (omega arith) p (eqb-true m′ m e))
+      (λ e. let n = eqb-false m′ m e in omega (arith, l refl, within-le (p .grown .within)))
 
   pub closing-closes : Closes (Listed ls rs) set (closing ls rs set)
   unfolding closing

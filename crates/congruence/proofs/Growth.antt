@@ -1,13 +1,11 @@
--- A set that grew by pairs: it lies within what it grew to, and is congruent to it. Assumes nothing.
-use mathlib.Core.Path.{_≡_}
-use mathlib.Core.Logic.{_↔_}
+-- A set that grew by pairs: it lies within what it grew to, and is congruent to it; growth goes on, by more pairs too. Assumes nothing.
 use Prim.Native.Nat.{ℕ}
 use lib.Bits.{bitOr}
 use Rattle.sets.specs.Sets.{Within}
 use Rattle.sets.proofs.Inclusion.{within-refl, within-trans, within-right, within-union}
 use Rattle.congruence.specs.Congruence.{Congruent}
 use Rattle.congruence.specs.Congruence.Congruent.{given, same, back, on, union}
-use Rattle.congruence.specs.Closing.{Grows, Closed}
+use Rattle.congruence.specs.Closing.{Grows}
 use Rattle.congruence.specs.Closing.Grows.{nothing, right, left}
 
 pub grown-within : {R : ℕ → ℕ → Type 0} {set mask : ℕ} → Grows R set mask → Within set mask
@@ -29,6 +27,12 @@ pub grown-on : {R : ℕ → ℕ → Type 0} {a b c : ℕ} → Grows R a b → Gr
 grown-on p nothing = p
 grown-on p (right q r w) = right (grown-on p q) r w
 grown-on p (left q r w) = left (grown-on p q) r w
+
+-- more pairs, more growth: passes over the parts of a list are growth by the whole
+pub grown-monotone : {R S : ℕ → ℕ → Type 0} → ((a b : ℕ) → R a b → S a b) → {set mask : ℕ} → Grows R set mask → Grows S set mask
+grown-monotone f nothing = nothing
+grown-monotone f (right g r w) = right (grown-monotone f g) (f _ _ r) w
+grown-monotone f (left g r w) = left (grown-monotone f g) (f _ _ r) w
 
 -- what has the set and both sides of every pair within it has all growth within it
 pub grown-under : {R : ℕ → ℕ → Type 0} {set mask top : ℕ} → ((a b : ℕ) → R a b → Within a top × Within b top) → Within set top → Grows R set mask → Within mask top

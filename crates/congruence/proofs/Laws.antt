@@ -2,7 +2,6 @@
 use mathlib.Core.Path.{_≡_, refl, sym, _∙_}
 use mathlib.Core.List.{List}
 use Prim.Native.Nat.{ℕ}
-use lib.Bits.{bitOr}
 use Rattle.pattern.specs.Pattern.{Pattern}
 use Rattle.pattern.specs.Language.{next, accepts}
 use Rattle.pattern.proofs.Steps.{next-union}

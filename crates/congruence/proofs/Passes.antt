@@ -1,6 +1,6 @@
--- What a pass over listed pairs keeps, and what passes end in. Assumes nothing.
+-- What a pass over listed pairs keeps, and what it ends in. Assumes nothing.
 use mathlib.Core.Path.{_≡_}
-use mathlib.Core.Logic.{_↔_, _⊎_, inl, inr}
+use mathlib.Core.Logic.{_↔_}
 use mathlib.Core.List.{List}
 use Prim.Native.Nat.{ℕ, _-_, _^_, _≤_, _<_}
 use lib.ListN.{length, getD}
@@ -10,11 +10,10 @@ use Rattle.sets.proofs.Inclusion.{within-trans}
 use Rattle.sets.proofs.Goodness.{good-within-all}
 use Rattle.sets.proofs.Growing.{Passed, passed-all}
 use Rattle.congruence.specs.Congruence.{Listed}
-use Rattle.congruence.specs.Closing.{Grows, Closed, Closes, Passes}
+use Rattle.congruence.specs.Closing.{Grows, Closed}
 use Rattle.congruence.specs.Closing.Grows.{nothing, right, left}
-use Rattle.congruence.proofs.Growth.{grown-on}
 
--- every mask of the code's loops grew from the set, and fits
+-- a mask that grew from the set, and fits
 pub record Held (R : ℕ → ℕ → Type 0) (set m : ℕ) : Type 0 where
   pub grown : Grows R set m
   pub fits : m < 2 ^ 64
@@ -30,17 +29,13 @@ module _ {R : ℕ → ℕ → Type 0} {set : ℕ} where
   held-left {a} {b} {m} r ha w h = record { grown = left (h .grown) r w; fits = or-lt 64 a m ha (h .fits) }
 
 -- pair j of the list adds nothing to m
-abbrev pub Even : List ℕ → List ℕ → ℕ → ℕ → Type 0
-Even ls rs j m = Within (getD ls j 0) m ↔ Within (getD rs j 0) m
+abbrev pub StillAt : List ℕ → List ℕ → ℕ → ℕ → Type 0
+StillAt ls rs j m = Within (getD ls j 0) m ↔ Within (getD rs j 0) m
 
 -- a whole pass that added nothing leaves a closed mask
-pub passed-closed : {Keeps : ℕ → Type 0} {ls rs : List ℕ} {before m i : ℕ} → length ls ≤ i → Passed Keeps (Even ls rs) (length ls) before i m → m ≡ before
+pub passed-closed : {Keeps : ℕ → Type 0} {ls rs : List ℕ} {before m i : ℕ} → length ls ≤ i → Passed Keeps (StillAt ls rs) (length ls) before i m → m ≡ before
     → Closed (Listed ls rs) m
 passed-closed l p e a b r = rw (← r .left, ← r .right) (passed-all l p e (r .at) (r .below))
-
--- passes that end in one that adds nothing close the set
-pub passes-close : {R : ℕ → ℕ → Type 0} {set m m′ : ℕ} → Grows R set m → Passes R m m′ → m′ ≡ m → Closes R set m′
-passes-close g p e = record { grown = grown-on g (p .grown); still = p .still e }
 
 -- a set that has every state adds nothing by pairs of sets of those states
 pub every-state-closed : {n mask : ℕ} {ls rs : List ℕ} → ((j : ℕ) → Good n (getD ls j 0)) → ((j : ℕ) → Good n (getD rs j 0)) → Within (2 ^ n - 1) mask → Closed (Listed ls rs) mask

@@ -2,8 +2,8 @@
 --   Grows R set mask         the set grew to the mask: by nothing, or by one side after another
 --   Closed R set             no pair adds anything
 --   Closes R set closed      grown, and no pair adds anything: it decides congruence (`closing-decides`)
---   Passes R set mask        what one pass over the pairs makes of the set
---   Toward R set goal mask   grown until the goal lies within, or no pair adds anything (`growing-decides`)
+--   Passes R set goal mask   what one pass over the pairs makes of the set: it may end early once the goal lies within
+--   Toward R set goal mask   grown until the goal lies within, or no pair adds anything: so much decides congruence too (`growing-decides`)
 use mathlib.Core.Path.{_≡_}
 use mathlib.Core.Logic.{_↔_, _⊎_}
 use Prim.Native.Nat.{ℕ}
@@ -23,10 +23,10 @@ pub record Closes (R : ℕ → ℕ → Type 0) (set closed : ℕ) : Type 0 where
   pub grown : Grows R set closed
   pub still : Closed R closed
 
--- a pass that added nothing found a closed set
-pub record Passes (R : ℕ → ℕ → Type 0) (set mask : ℕ) : Type 0 where
+-- a pass that added nothing had the goal within already, or found no pair that adds anything
+pub record Passes (R : ℕ → ℕ → Type 0) (set goal mask : ℕ) : Type 0 where
   pub grown : Grows R set mask
-  pub still : mask ≡ set → Closed R mask
+  pub still : mask ≡ set → Within goal mask ⊎ Closed R mask
 
 pub record Toward (R : ℕ → ℕ → Type 0) (set goal mask : ℕ) : Type 0 where
   pub grown : Grows R set mask

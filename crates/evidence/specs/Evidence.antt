@@ -5,8 +5,8 @@
 --   HoldsAt i    pair i of the list holds; HoldBelow i: pairs 0 to i - 1 do
 --   checkTest    what is refused, in the order 10, 11, 16, 12
 --   ValidOffer   an offer that is not refused (`offer-valid`)
---   Checked      what the check answers: one answer to each offer (`check-determined`, `proved-exactly`, `not-proved-place`)
---   numberOf, placeOf   document 01's number of an answer, and the place returned with it
+--   Checked      what the check answers: one answer to each offer (`check-determined`)
+--   numberOf, placeOf   the scope's number of an answer, and the place returned with it; what they mean stands in specs/Meaning
 use mathlib.Core.Path.{_≡_}
 use mathlib.Core.Bool.{_&&_}
 use mathlib.Core.List.{List, [], _∷_}
@@ -16,8 +16,10 @@ use lib.Dec.{leb, eqb}
 use Rattle.verdict.specs.declared.Verdict.{Verdict}
 use Rattle.verdict.specs.declared.Verdict.the-variants.{Fine, Against}
 use Rattle.verdict.specs.Tests.{need, inOrder, each}
+use Rattle.lent.specs.Lent.{Slice, before}
 use Rattle.sets.specs.Sets.{Good}
-use Rattle.pattern.specs.Pattern.{Pattern, patternOf, Valid}
+use Rattle.sets.specs.Rooms.{maxRoom}
+use Rattle.pattern.specs.Pattern.{Pattern, patternOf, AllGood, Valid}
 use Rattle.pattern.specs.Tests.{shapeTest, masksTest, setTest}
 use Rattle.congruence.specs.Congruence.{Listed}
 use Rattle.congruence.specs.Progress.{Progresses}
@@ -33,6 +35,10 @@ pub record Offer : Type 0 where
 
 abbrev pub offerOf : ℕ → ℕ → ℕ → List ℕ → ℕ → ℕ → List ℕ → List ℕ → Offer
 offerOf n k finals rows x y lefts rights = record { pattern = patternOf n k finals rows; x = x; y = y; lefts = lefts; rights = rights }
+
+-- the offer of a call that is lent its rows and the two sides
+abbrev pub offerIn : ℕ → ℕ → ℕ → Slice → ℕ → ℕ → Slice → Slice → Offer
+offerIn n k finals rows x y lefts rights = offerOf n k finals (before rows) x y (before lefts) (before rights)
 
 -- ---- the pairs
 
@@ -50,9 +56,9 @@ HoldBelow P lefts rights i = (j : ℕ) → j < i → HoldsAt P lefts rights j
 
 -- ---- the refusals
 
--- 16 BAD-LIST: at most 1024 pairs, and two sides of one length
+-- 16 BAD-LIST: at most as many pairs as the largest room, and two sides of one length
 unfoldable pub listTest : ℕ → ℕ → Verdict
-listTest lefts rights = need (leb lefts 1024 && eqb lefts rights) 16
+listTest lefts rights = need (leb lefts maxRoom && eqb lefts rights) 16
 
 -- 12 BAD-SET: X, Y, and both sides of all pairs
 unfoldable pub pairsTest : ℕ → ℕ → ℕ → List ℕ → List ℕ → Verdict
@@ -69,12 +75,12 @@ checkTest o =
 
 pub record ValidOffer (o : Offer) : Type 0 where
   pub pattern : Valid (o .pattern)
-  pub pairs-fit : length (o .lefts) ≤ 1024
+  pub pairs-fit : length (o .lefts) ≤ maxRoom
   pub sides-match : length (o .lefts) ≡ length (o .rights)
   pub x-good : Good (o .pattern .states) (o .x)
   pub y-good : Good (o .pattern .states) (o .y)
-  pub lefts-good : (i : ℕ) → i < length (o .lefts) → Good (o .pattern .states) (getD (o .lefts) i 0)
-  pub rights-good : (i : ℕ) → i < length (o .rights) → Good (o .pattern .states) (getD (o .rights) i 0)
+  pub lefts-good : AllGood (o .pattern .states) (o .lefts)
+  pub rights-good : AllGood (o .pattern .states) (o .rights)
 
 -- ---- the answer
 

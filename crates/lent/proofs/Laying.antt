@@ -5,8 +5,8 @@ use Prim.Native.Nat.{ℕ, suc, _+_, _≤_, _<_}
 use native.Mathlib.Numerals.{add-one}
 use native.Mathlib.Omega.{arith}
 use lib.ListN.{length, getD, take, drop, set, length-append, length-drop, List·getD-append}
-use lib.Seq.{set-at, drop-cons, take-append-le, take-at, drop-at}
-use Rattle.lent.specs.Lent.{lay}
+use lib.Seq.{set-at, drop-cons, take-append-le, take-at, drop-at, drop-drop}
+use Rattle.lent.specs.Lent.{lay, layAt}
 
 module _ {A : Type 0} where
   pub lay-none : (old : List A) → lay [] old ≡ old
@@ -42,3 +42,15 @@ module _ {A : Type 0} where
   lay-more values old n v d e l =
       let next : length (values ++ (v ∷ [])) ≡ suc n = length-append values (v ∷ []) ∙ ap (λ (m : ℕ). m + 1) e ∙ add-one n in
       rw (e, next, drop-cons old n d l) (set-at values (getD old n d) (drop (suc n) old) v n e ∙ sym (append-assoc values (v ∷ []) (drop (suc n) old)))
+
+  -- ---- from a place on
+
+  pub lay-at-start : (values old : List A) → layAt 0 values old ≡ lay values old
+  unfolding layAt
+  lay-at-start values old = refl
+
+  -- what stands before the place, the values, and what stands after them
+  pub lay-at-parts : (at : ℕ) (values old : List A) → layAt at values old ≡ take at old ++ values ++ drop (at + length values) old
+  unfolding layAt lay
+  lay-at-parts at values old =
+      ap (λ (l : List A). take at old ++ (values ++ l)) (drop-drop (length values) at old) ∙ sym (append-assoc (take at old) values (drop (at + length values) old))

@@ -7,6 +7,8 @@
 --   Put old at values next new
 --                      the values were put from the place at on, and next is the place after them; all else is as it was
 --                      (`put-found`, `put-front`, `put-back`), and nothing is left open (`put-determined`)
+--   Puts out at values next
+--                      the same of a lent slice: what a call that puts values promises of it
 use mathlib.Core.Path.{_≡_}
 use mathlib.Core.List.{List, _++_}
 use Prim.Native.Nat.{ℕ, _+_, _≤_}
@@ -36,3 +38,6 @@ pub record Put (old : List ℕ) (at : ℕ) (values : List ℕ) (next : ℕ) (new
   pub ends : next ≡ at + length values
   pub within : next ≤ length old
   pub laid : new ≡ layAt at values old
+
+abbrev pub Puts : Slice → ℕ → List ℕ → ℕ → Type 0
+Puts out at values next = Put (before out) at values next (after out)

@@ -1,6 +1,6 @@
--- The tests of a pattern, each with document 01's number. A call makes them in the order 10, 11, .., 12, with its own tests between.
+-- The tests of a pattern, each with the scope's number (§7). A call makes them in the order 10, 11, .., 12, with its own tests between.
 use mathlib.Core.Bool.{_&&_}
-use mathlib.Core.List.{List, [], _∷_}
+use mathlib.Core.List.{[], _∷_}
 use Prim.Native.Nat.{ℕ, _*_, _^_}
 use lib.ListN.{length}
 use lib.Dec.{leb, ltb, eqb}

@@ -8,9 +8,9 @@ use Rattle.walk.specs.Walk.{Record, leftsOf, rightsOf, Outcome, keptOf, wordOf}
 use Rattle.walk.specs.Walk.Outcome.{Same, Different, Full}
 use Rattle.comparison.specs.Answers.{Lent, answerOf, layOut}
 use Rattle.lent.proofs.Laying.{take-lay}
-use Rattle.text.specs.Text.{word, decimal, line}
+use Rattle.text.specs.Text.{word, decimal, line, refusalText}
 use Rattle.events.specs.Events.{eventName}
-use Rattle.report.specs.Report.{recordLines, textOf, refusalText}
+use Rattle.report.specs.Report.{recordLines, textOf}
 use Rattle.report.specs.Inner.{pairLines, answerText, Small}
 
 -- ---- by the cases of the code

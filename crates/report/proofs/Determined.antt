@@ -11,8 +11,8 @@ use Rattle.walk.specs.Walk.{Question, Outcome, keptOf, wordOf, Walk}
 use Rattle.sets.specs.Rooms.{defaultRoom}
 use Rattle.comparison.specs.Answers.{Lent, layOut}
 use Rattle.walk.proofs.WalkUnique.{walk-unique}
-use Rattle.text.specs.Text.{Put}
-use Rattle.text.proofs.Putting.{put-determined}
+use Rattle.lent.specs.Lent.{Put}
+use Rattle.lent.proofs.Putting.{put-determined}
 use Rattle.report.specs.Report.{textOf, Asks, Refuses, Prints, Leaves, Reports}
 use Rattle.report.specs.Report.Prints.{refuses, answers}
 use Rattle.report.specs.Report.Leaves.{unchanged, laid}

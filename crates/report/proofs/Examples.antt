@@ -4,19 +4,19 @@ use mathlib.Core.List.{List, [], _∷_}
 use Prim.Native.Nat.{ℕ}
 use native.Mathlib.Omega.{arith}
 use Rattle.verdict.specs.Tests.{need, inOrder}
-use Rattle.pattern.specs.Tests.{sizeTest, setTest}
+use Rattle.pattern.specs.Tests.{sizeTest, setTest, spaceTest}
 use Rattle.numbers.specs.Numbers.{byteTest, groups, numberAt}
 use Rattle.numbers.specs.Format.{many, reading, fileReading}
-use Rattle.patternfile.specs.PatternFile.{roomTest, patternFormat}
+use Rattle.patternfile.specs.PatternFile.{patternThen, patternFormat}
 use Rattle.patternfile.proofs.Examples.{no-bytes}
 use Rattle.walk.specs.Walk.Outcome.{Same, Different, Full}
 use Rattle.walk.specs.Known.{A, pair, Row, Holds, Known}
 use Rattle.walk.specs.Known.Known.{row}
 use Rattle.walk.proofs.MoreRoom.{more-room}
 use Rattle.walk.proofs.KnownAnswers.{known-answers}
-use Rattle.text.specs.Text.{word, digits, decimal, spaced, joined, line}
+use Rattle.text.specs.Text.{word, digits, decimal, spaced, joined, line, refusalText}
 use Rattle.events.specs.Events.{names, eventName}
-use Rattle.report.specs.Report.{recordLines, textOf, refusalText, Asks, Prints}
+use Rattle.report.specs.Report.{recordLines, textOf, Asks, Prints}
 use Rattle.report.specs.Report.Prints.{refuses, answers}
 
 -- an empty line for the empty sequence
@@ -48,7 +48,7 @@ abbrev pattern-a : List ℕ
 pattern-a = 0x03 ∷ 0x01 ∷ 0x05 ∷ 0x02 ∷ 0x01 ∷ 0x04 ∷ 0x01 ∷ 0x04 ∷ []
 
 asks-a : Asks pattern-a (A 1 4)
-unfolding fileReading patternFormat reading many numberAt groups byteTest sizeTest setTest roomTest inOrder need
+unfolding fileReading patternFormat patternThen reading many numberAt groups byteTest sizeTest setTest spaceTest inOrder need
 asks-a = record { tabled = refl; read = refl }
 
 first-known : {r : Row} {rows : List Row} → Known (r ∷ rows) → Holds r

@@ -5,20 +5,11 @@ use native.Mathlib.Omega.{arith}
 use lib.ListN.{length, take, getD, length-append}
 use Rattle.text.specs.Text.{decimal, spaced, joined, line}
 use Rattle.text.proofs.Decimal.{decimal-short}
-use Rattle.text.proofs.Lines.{spaced-length, line-length}
+use Rattle.text.proofs.Lines.{spaced-length, line-length, whole-length}
 use Rattle.events.specs.Events.{eventName}
 use Rattle.events.proofs.Names.{name-short}
 use Rattle.report.specs.Inner.{pairLines}
-use Rattle.report.proofs.Lines.{whole-length, pair-length}
-
-numbers-short : (numbers : List ℕ) → length (spaced (map decimal numbers)) ≤ 21 * length numbers
-unfolding spaced
-numbers-short [] = omega arith
-numbers-short (v ∷ numbers) = omega (arith, spaced-length (decimal v) (map decimal numbers), decimal-short v, numbers-short numbers)
-
--- a line of a name and some numbers
-pub head-short : (name numbers : List ℕ) → length (line (name ∷ map decimal numbers)) ≤ length name + 21 * length numbers + 1
-head-short name numbers = omega (arith, whole-length name (map decimal numbers), numbers-short numbers)
+use Rattle.report.proofs.Lines.{pair-length}
 
 -- the lines of n records
 pub pairs-short : (n : ℕ) (lefts rights : List ℕ) → length (pairLines (take n lefts) (take n rights)) ≤ 42 * n

@@ -4,7 +4,7 @@ use mathlib.Core.List.{List}
 use Prim.Native.Nat.{ℕ, _+_, _*_, _≤_}
 use native.Mathlib.Omega.{arith}
 use lib.ListN.{length, take}
-use lib.Seq.{sets, length-take-le}
+use lib.Seq.{length-take-le}
 use Rattle.verdict.specs.declared.Verdict.the-variants.{Fine}
 use Rattle.pattern.specs.Pattern.{patternOf}
 use Rattle.numbers.specs.Numbers.{AreBytes}
@@ -21,10 +21,11 @@ use Rattle.walk.specs.Meaning.{Proper}
 use Rattle.comparison.specs.Meaning.{Roomy}
 use Rattle.comparison.proofs.Asking.{compare-fine}
 use Rattle.verdict.proofs.Ordered.{apart}
-use Rattle.comparison.proofs.CompareHonest.{compare-valid, compare-honest}
-use Rattle.text.specs.Text.{Put}
-use Rattle.text.proofs.Putting.{put-length, put-as}
-use Rattle.report.specs.Report.{textOf, refusalText, rowRoom, Asks, Refuses, Prints, Leaves, Reports}
+use Rattle.comparison.proofs.CompareHonest.{compare-honest}
+use Rattle.lent.specs.Lent.{lay, Put}
+use Rattle.lent.proofs.Putting.{put-length, put-as}
+use Rattle.text.specs.Text.{refusalText}
+use Rattle.report.specs.Report.{textOf, rowRoom, Asks, Refuses, Prints, Leaves, Reports}
 use Rattle.report.specs.Report.Prints.{refuses, answers}
 use Rattle.report.specs.Report.Leaves.{unchanged, laid}
 use Rattle.report.specs.Inner.{answerText, Small}
@@ -92,7 +93,7 @@ module _ {input rows : List ℕ} {n k f x y : ℕ} {new : List ℕ} (t : Accepte
   proper : Proper question
   proper = rw rows-read (record { valid = contents .valid; left-good = contents .good-x; right-good = contents .good-y })
 
-  rows-laid : new ≡ sets rows 0 (take (n * k) new)
+  rows-laid : new ≡ lay (take (n * k) new) rows
   rows-laid = rw rows-read (t .done .written)
 
   -- so the comparison does not refuse it, and its answer is the walk's outcome
@@ -102,14 +103,14 @@ module _ {input rows : List ℕ} {n k f x y : ℕ} {new : List ℕ} (t : Accepte
 
     pub answer-small : Small answer
     answer-small =
-        let told = compare-honest compared (compare-valid proper roomy compared) in
+        let told = compare-honest compared in
         record { few = told .kept-fits; short = omega (arith, told .length-fits, told .kept-fits) }
 
     pub answer-reported : {old : List ℕ} {r : ℕ} {out : List ℕ} → Put old 0 (answerText answer (l .columns .lefts) (l .columns .rights) (l .sequence)) r out
         → Reports input old r out × Leaves input rows lent new l
     answer-reported put = (
       reported (answers asks (went .walk)) (put-as put text),
-      subst (λ (t : List ℕ). Leaves input rows lent t l) (sym rows-laid) (subst (λ (m : Lent). Leaves input rows lent (sets rows 0 (take (n * k) new)) m) (sym (went .left)) (laid asks (went .walk))),
+      subst (λ (t : List ℕ). Leaves input rows lent t l) (sym rows-laid) (subst (λ (m : Lent). Leaves input rows lent (lay (take (n * k) new) rows) m) (sym (went .left)) (laid asks (went .walk))),
     )
       where
         text : answerText answer (l .columns .lefts) (l .columns .rights) (l .sequence) ≡ textOf (went .outcome)

@@ -7,9 +7,8 @@ use Prim.Native.Nat.{ℕ, _≤_}
 use lib.ListN.{take}
 use Rattle.comparison.specs.declared.Answer.{Answer}
 use Rattle.comparison.specs.Answers.{valuesOf}
-use Rattle.text.specs.Text.{word, decimal, line}
+use Rattle.text.specs.Text.{word, decimal, line, refusalText}
 use Rattle.events.specs.Events.{eventName}
-use Rattle.report.specs.Report.{refusalText}
 
 unfoldable pub pairLines : List ℕ → List ℕ → List ℕ
 pairLines [] rights = []

@@ -1,7 +1,6 @@
--- What `compare` prints (document 01, 'The program'), for all bytes that it can take in. Its lines are made of `word`, `decimal` and `line` (text), and `eventName` (events).
+-- What `compare` prints (document 01, 'The program'), for all bytes that it can take in. Its lines are made of `word`, `decimal`, `line` and `refusalText` (text), and `eventName` (events).
 --   recordLines kept          a line for each record: left and right in decimal
 --   textOf outcome            the answer's name, kept, examined, and for DIFFERENT the length too; after SAME the records, after DIFFERENT the sequence
---   refusalText number place  `REFUSED`, its number and the place
 --   Asks input Q              the bytes taken in are the pattern file of the question Q, and of no other (`asks-one`)
 --   Refuses input w place     reading them gives the refusal w at a place
 --   Prints input text         what is printed for the bytes taken in: one text for each input (`prints-determined`), which no byte from
@@ -13,7 +12,6 @@ use mathlib.Core.Path.{_≡_}
 use mathlib.Core.List.{List, [], _∷_, _++_, map}
 use Prim.Native.Nat.{ℕ, _+_, _*_, _≤_}
 use lib.ListN.{length, take}
-use lib.Seq.{sets}
 use Rattle.numbers.specs.Format.{refused, fileReading}
 use Rattle.patternfile.specs.PatternFile.{patternFormat}
 use Rattle.patternfile.specs.Reader.{FileOf}
@@ -22,7 +20,8 @@ use Rattle.walk.specs.Walk.Outcome.{Same, Different, Full}
 use Rattle.sets.specs.Rooms.{defaultRoom}
 use Rattle.comparison.specs.Answers.{Lent, layOut}
 use Rattle.comparison.specs.Meaning.{Roomy}
-use Rattle.text.specs.Text.{word, decimal, line, Put}
+use Rattle.lent.specs.Lent.{lay, Put}
+use Rattle.text.specs.Text.{word, decimal, line, refusalText}
 use Rattle.events.specs.Events.{eventName}
 
 unfoldable pub recordLines : List Record → List ℕ
@@ -35,9 +34,6 @@ textOf (Same kept examined) = line (word "SAME" ∷ decimal (length kept) ∷ de
 textOf (Different kept examined sequence) =
     line (word "DIFFERENT" ∷ decimal (length kept) ∷ decimal examined ∷ decimal (length sequence) ∷ []) ++ line (map eventName sequence)
 textOf (Full kept examined) = line (word "FULL" ∷ decimal (length kept) ∷ decimal examined ∷ [])
-
-unfoldable pub refusalText : ℕ → ℕ → List ℕ
-refusalText number place = line (word "REFUSED" ∷ decimal number ∷ decimal place ∷ [])
 
 -- the row buffer of the program: a row for each of 64 states and 32 letters
 abbrev pub rowRoom : ℕ
@@ -57,7 +53,7 @@ pub data Prints (input : List ℕ) : List ℕ → Type 0 where
 pub data Leaves (input rows : List ℕ) (lent : Lent) : List ℕ → Lent → Type 0 where
   unchanged : {number place : ℕ} → Refuses input number place → Leaves input rows lent rows lent
   laid : {Q : Question} {o : Outcome} → Asks input Q → Walk Q defaultRoom o
-      → Leaves input rows lent (sets rows 0 (Q .pattern .rows)) (layOut (keptOf o) (wordOf o) lent)
+      → Leaves input rows lent (lay (Q .pattern .rows) rows) (layOut (keptOf o) (wordOf o) lent)
 
 -- a line of four letters and two numbers, and 1024 lines of two numbers, each number of at most 20 digits: no text is longer
 abbrev pub longest : ℕ

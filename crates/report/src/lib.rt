@@ -3,42 +3,20 @@ ghost use mathlib.Core.List.{_∷_, [], _++_, map};
 ghost use mathlib.Core.Path.{_≡_};
 ghost use Prim.Native.Nat.{_+_, _≤_};
 ghost use lib.ListN.{length};
-ghost use Rattle.text.specs.Text.{Put, word, decimal, spaced, line};
+ghost use Rattle.lent.specs.Lent.{Put};
+ghost use Rattle.text.specs.Text.{word, decimal, spaced, line};
 ghost use Rattle.events.specs.Events.{eventName};
 ghost use Rattle.comparison.specs.Answers.{lentOf};
-ghost use Rattle.report.specs.Report.{refusalText, longest, Lends, Leaves, Reports};
+ghost use Rattle.report.specs.Report.{longest, Lends, Leaves, Reports};
 ghost use Rattle.report.specs.Inner.{pairLines, answerText, Small};
 use comparison::Answer;
 use events::put_name;
 use patternfile::PatternRead;
 use text::put_byte;
-use text::put_bytes;
 use text::put_decimal;
+use text::put_head;
 use text::put_number;
-
-// Numbers, each with a space in front.
-fn put_numbers(out: &mut [u8], at: usize, numbers: &[u64]) -> usize
-    requires { ⌜ at + length (spaced (map decimal (now numbers))) ≤ length (now out) ⌝ }
-    ensures { λ r. ⌜ Put (now (out .entry)) at (spaced (map decimal (now (numbers .entry)))) r (now (out .exit)) ⌝ }
-{
-    let mut place = at;
-    let mut i: usize = 0;
-    while i < numbers.len() {
-        place = put_number(out, place, numbers[i]);
-        i = i + 1;
-    }
-    place
-}
-
-// The first line: a name and its numbers.
-fn put_head(out: &mut [u8], name: &[u8], numbers: &[u64]) -> usize
-    requires { ⌜ length (line (now name ∷ map decimal (now numbers))) ≤ length (now out) ⌝ }
-    ensures { λ r. ⌜ Put (now (out .entry)) 0 (line (now (name .entry) ∷ map decimal (now (numbers .entry)))) r (now (out .exit)) ⌝ }
-{
-    let first = put_bytes(out, 0, name);
-    let last = put_numbers(out, first, numbers);
-    put_byte(out, last, b'\n')
-}
+use text::put_refusal;
 
 fn put_record(out: &mut [u8], at: usize, left: u64, right: u64) -> usize
     requires { ⌜ at + length (line (decimal left ∷ decimal right ∷ [])) ≤ length (now out) ⌝ }
@@ -100,14 +78,6 @@ fn put_sequence(out: &mut [u8], at: usize, sequence: &[u8]) -> usize
     put_byte(out, last, b'\n')
 }
 
-fn put_refusal(out: &mut [u8], number: u8, place: usize) -> usize
-    requires { ⌜ longest ≤ length (now out) ⌝ }
-    ensures { λ r. ⌜ Put (now (out .entry)) 0 (refusalText number place) r (now (out .exit)) ⌝ }
-{
-    let numbers = [number as u64, place as u64];
-    put_head(out, b"REFUSED", &numbers)
-}
-
 // The text of the comparison's answer, by what it left in the lists.
 fn put_answer(
     out: &mut [u8],
@@ -126,19 +96,19 @@ fn put_answer(
     match answer {
         Answer::Same(kept, examined) => {
             let counts = [kept as u64, examined as u64];
-            let place = put_head(out, b"SAME", &counts);
+            let place = put_head(out, 0, b"SAME", &counts);
             put_records(out, place, &lefts[..kept], &rights[..kept])
         }
         Answer::Different(kept, examined, length) => {
             let counts = [kept as u64, examined as u64, length as u64];
-            let place = put_head(out, b"DIFFERENT", &counts);
+            let place = put_head(out, 0, b"DIFFERENT", &counts);
             put_sequence(out, place, &sequence[..length])
         }
         Answer::Full(kept, examined) => {
             let counts = [kept as u64, examined as u64];
-            put_head(out, b"FULL", &counts)
+            put_head(out, 0, b"FULL", &counts)
         }
-        Answer::Refused(number) => put_refusal(out, number, 0),
+        Answer::Refused(number) => put_refusal(out, 0, number, 0),
     }
 }
 
@@ -159,7 +129,7 @@ pub fn report(
 {
     let file = patternfile::read(bytes, rows);
     match file {
-        PatternRead::Refused(number, place) => put_refusal(out, number, place),
+        PatternRead::Refused(number, place) => put_refusal(out, 0, number, place),
         PatternRead::Done {
             states,
             letters,

@@ -1,9 +1,9 @@
 -- A mask that passes over a table let grow until one adds nothing: what its tests and its passes keep. Assumes nothing.
---   Keeps m             what is true of every mask on the way
---   Still j m           entry j of the table adds nothing to m
---   Grown               a mask grew to another
---   Stepped             a test was made at m and left m′: where it added nothing, Quiet holds
---   Passed              in a pass that began at the mask `before`, m stands after the first i entries: where nothing was added, they are still
+--   Keeps m      what is true of every mask on the way
+--   Still j m    entry j of the table adds nothing to m
+--   Grown        a mask grew to another
+--   Stepped      a test was made at m and left m′; where it added nothing, Quiet holds
+--   Passed       in a pass that began at the mask before, m stands after the first i entries; where nothing was added, they are still
 use mathlib.Core.Path.{_≡_, sym, _∙_}
 use Prim.Native.Nat.{ℕ, _+_, _≤_, _<_}
 use native.Mathlib.Omega.{arith}
@@ -26,10 +26,10 @@ pub record Passed (Keeps : ℕ → Type 0) (Still : ℕ → ℕ → Type 0) (cou
   pub quiet : m ≡ before → (j : ℕ) → j < i → Still j before
 
 module _ {Keeps : ℕ → Type 0} where
-  grown-none : {m : ℕ} → Keeps m → Grown Keeps m m
+  pub grown-none : {m : ℕ} → Keeps m → Grown Keeps m m
   grown-none {m} k = record { within = within-refl m; keeps = k }
 
-  grown-more : {a b c : ℕ} → Grown Keeps a b → Grown Keeps b c → Grown Keeps a c
+  pub grown-more : {a b c : ℕ} → Grown Keeps a b → Grown Keeps b c → Grown Keeps a c
   grown-more p q = record { within = within-trans (p .within) (q .within); keeps = q .keeps }
 
   -- a mask that grows and comes back to where it was stood still
@@ -42,8 +42,8 @@ module _ {Keeps : ℕ → Type 0} where
   took {Test} {more} {m} k e =
       record { grown = rw e (record { within = within-right more m; keeps = k }); quiet = λ still t. record { joins = sym e ∙ still } }
 
-  pub left : {Test : Type 0} {more m m′ : ℕ} → Keeps m → (Test → ⊥) → m′ ≡ m → Stepped Keeps (Test → Within more m) m m′
-  left k f e = record { grown = rw e (grown-none k); quiet = λ still t. absurd (f t) }
+  pub passed-by : {Test : Type 0} {more m m′ : ℕ} → Keeps m → (Test → ⊥) → m′ ≡ m → Stepped Keeps (Test → Within more m) m m′
+  passed-by k f e = record { grown = rw e (grown-none k); quiet = λ still t. absurd (f t) }
 
   -- two tests of one entry
   pub stepped-both : {m m₁ m₂ : ℕ} {P : Type 0} (Q : ℕ → Type 0) → Stepped Keeps P m m₁ → Stepped Keeps (Q m₁) m₁ m₂ → Stepped Keeps (P × Q m) m m₂

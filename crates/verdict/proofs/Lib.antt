@@ -2,4 +2,5 @@
 pub mod Ordered
 pub mod Each
 pub mod Numbered
+pub mod Lines
 pub mod Flags

@@ -1,8 +1,11 @@
 -- By which numbers a verdict can refuse: one test, tests in order, a test of each value. Assumes nothing.
-use mathlib.Core.Path.{_≡_, refl, sym, _∙_}
-use mathlib.Core.Bool.{Bool, true, false}
+use mathlib.Core.Path.{_≡_, refl}
+use mathlib.Core.Bool.{Bool, true, false, _&&_, and-eq-true-iff}
 use mathlib.Core.List.{List, [], _∷_, map, List·Memᴰ}
-use Prim.Native.Nat.{ℕ}
+use mathlib.Core.List.List·Memᴰ.{List·Memᴰ·head, List·Memᴰ·tail}
+use Prim.Native.Nat.{ℕ, _≤_}
+use lib.Dec.{leb}
+use borrow.Author.Tests.{leb-true}
 use Rattle.verdict.specs.declared.Verdict.{Verdict}
 use Rattle.verdict.specs.declared.Verdict.the-variants.{Fine, Against}
 use Rattle.verdict.specs.Tests.{need, inOrder, each, Among}
@@ -35,3 +38,16 @@ module _ (numbers : List ℕ) where
       all : (xs : List ℕ) → AllAmong numbers (map test xs)
       all [] = none
       all (x ∷ xs) = more (f x) (all xs)
+
+-- each of the numbers is at least so large
+abbrev pub allFrom : ℕ → List ℕ → Bool
+allFrom least [] = true
+allFrom least (x ∷ xs) = leb least x && allFrom least xs
+
+from-member : (least : ℕ) {w : ℕ} (numbers : List ℕ) → allFrom least numbers ≡ true → List·Memᴰ w numbers → least ≤ w
+from-member least (x ∷ xs) e (List·Memᴰ·head d) = rw d (leb-true _ _ (and-eq-true-iff (leb least x) (allFrom least xs) .0 e .0))
+from-member least (x ∷ xs) e (List·Memᴰ·tail m) = from-member least xs (and-eq-true-iff (leb least x) (allFrom least xs) .0 e .1) m
+
+-- so is every number that the verdict refuses by
+pub among-from : {numbers : List ℕ} {v : Verdict} {w : ℕ} (least : ℕ) → allFrom least numbers ≡ true → Among numbers v → v ≡ Against w → least ≤ w
+among-from {numbers} {v} {w} least e m r = from-member least numbers e (m .among w r)

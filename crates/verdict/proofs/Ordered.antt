@@ -54,6 +54,11 @@ order-fine [] = (λ e. tt, λ u. refl)
 order-fine (Fine ∷ tests) = (λ e. (refl, order-fine tests .0 e), λ (p, q). order-fine tests .1 q)
 order-fine (Against w ∷ tests) = (λ e. let z : _≡_ {A = ℕ} 0 1 = cc in absurd (omega arith), λ (p, q). p)
 
+-- nothing is against two parts exactly where nothing is against either
+pub order-both : (v : Verdict) (tests : List Verdict) → (inOrder (v ∷ tests) ≡ Fine) ↔ ((v ≡ Fine) × (inOrder tests ≡ Fine))
+unfolding inOrder
+order-both v tests = (λ e. let (p, q) = order-fine (v ∷ tests) .0 e in (p, order-fine tests .1 q), λ (p, q). order-fine (v ∷ tests) .1 (p, order-fine tests .0 q))
+
 -- a test that fails decides
 pub order-stop : (v : Verdict) (tests : List Verdict) {w : ℕ} → v ≡ Against w → inOrder (v ∷ tests) ≡ v
 unfolding inOrder

@@ -1,4 +1,4 @@
--- What a test says, and tests made in order. Refusals are document 01's numbers, 10 and up.
+-- What a test says, and tests made in order. Refusals are by the numbers of the scope (§7).
 use mathlib.Core.Path.{_≡_}
 use mathlib.Core.Bool.{Bool, true, false}
 use mathlib.Core.List.{List, [], _∷_, map, List·Memᴰ}

@@ -16,6 +16,5 @@ pub mod LessRoom
 pub mod FullExactly
 pub mod RoomEnough
 -- the starred rows
-pub mod Closings
 pub mod Computed
 pub mod KnownAnswers

@@ -43,7 +43,7 @@ without {y} (List·Memᴰ·tail {x} {xs} m) =
     other r z f (List·Memᴰ·head g) = List·Memᴰ·head g
     other r z f (List·Memᴰ·tail k) = List·Memᴰ·tail (r .others z f k)
 
-some : {y : ℕ} {l : List ℕ} → List·Memᴰ y l → 0 < length l
+pub some : {y : ℕ} {l : List ℕ} → List·Memᴰ y l → 0 < length l
 some (List·Memᴰ·head e) = omega arith
 some (List·Memᴰ·tail m) = omega arith
 

@@ -9,7 +9,7 @@ use std::thread;
 use std::time::Duration;
 
 /// The program as `rt check` linked it.
-fn program(name: &str) -> PathBuf {
+pub fn program(name: &str) -> PathBuf {
     let path = PathBuf::from(env!("CARGO_MANIFEST_DIR"))
         .join("../../target/bin")
         .join(name);

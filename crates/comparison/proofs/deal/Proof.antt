@@ -6,11 +6,12 @@ use lib.ListN.{length, take}
 use lib.Seq.{length-take-le}
 use borrow.Author.Needs.{needs}
 use Rattle.comparison.specs.Answers.{Call, lentOf, callOf}
+use Rattle.verdict.proofs.Flags.{flags-agree, flags-differ}
 use Rattle.walk.specs.Walk.{upcoming}
 use Rattle.walk.specs.Columns.{Columns, Fit}
 use Rattle.walk.proofs.Columns.{fit-less}
 use Rattle.comparison.specs.Inner.{recordOf, recordsOf, standing}
-use Rattle.comparison.proofs.Dealing.{Facing, Old, Alike, long-parents, long-taken, letter-small, parent-small, spellable, deal-skipped, deal-full, deal-first, deal-later, deal-kept, flags-same, flags-other}
+use Rattle.comparison.proofs.Dealing.{Facing, Old, Alike, long-parents, long-taken, letter-small, parent-small, spellable, deal-skipped, deal-full, deal-first, deal-later, deal-kept}
 use Rattle.comparison.proofs.Standing.{length-records, shown}
 use Rattle.comparison.proofs.deal.Statement.{statement}
 use Rattle.comparison.proofs.deal.Tie as tie
@@ -72,14 +73,10 @@ fresh : (c : tie.Else1) → Old (facing (made c)) → ⊥
 fresh c = c .before .congruent .ensures .complete (c .if1 .left)
 
 apart : (c : tie.Then2) → Alike (facing (made (unequal c))) → ⊥
-apart c = flags-other _ _ (c .if2 .taken) (c .before .before .meets .ensures) (c .before .meets2 .ensures)
+apart c e = flags-differ _ _ (c .if2 .taken) (c .before .before .meets .ensures ∙ e ∙ sym (c .before .meets2 .ensures))
 
 alike : (c : tie.Else2) → Alike (facing (made (equal c)))
-alike c = flags-same _ _ (c .if2 .left) (c .before .before .meets .ensures) (c .before .meets2 .ensures)
-
--- each column has the next place
-next-place : (c : tie.Else4) → Fit (suc (proposed (made (equal (c .before))) .args .kept)) (call (proposed (made (equal (c .before)))) .lent .columns)
-next-place c = fit-less (c .if4 .left) (proposed (made (equal (c .before))) .pre .roomy .columns-fit)
+alike c = sym (c .before .before .meets .ensures) ∙ flags-agree _ _ (c .if2 .left) ∙ c .before .meets2 .ensures
 
 -- ---- the needs
 
@@ -204,6 +201,10 @@ returns-4 : tie.Need-returns-4
 returns-4 c =
     let e = equal (c .before) in
     deal-full (facing (made e)) (fresh e) (alike (c .before)) (c .if4 .taken)
+
+-- each column has the next place
+next-place : (c : tie.Else4) → Fit (suc (proposed (made (equal (c .before))) .args .kept)) (call (proposed (made (equal (c .before)))) .lent .columns)
+next-place c = fit-less (c .if4 .left) (proposed (made (equal (c .before))) .pre .roomy .columns-fit)
 
 mul-lefts : tie.Need-mul-lefts
 mul-lefts c = search needs

@@ -32,7 +32,7 @@ counted c = c .before .before
 -- the record that the first loop stands at has a parent, and so has the second's
 climbs : (c : tie.In-loop Inv-loop μ-loop Inv-loop2 μ-loop2)
     → Further (entered (c .before) .args .parents .now) (entered (c .before) .args .taken .now) (c .before .loop .i) (c .before .loop .inv .word)
-climbs c = further-of (c .before .loop .inv .path) (c .loop-test .taken)
+climbs c = further-of (c .before .loop .inv .path) (λ z. omega (arith, c .loop-test .taken))
 
 writes : (c : tie.In-loop2 Inv-loop μ-loop Inv-loop2 μ-loop2)
     → Further (entered (counted (c .before)) .args .parents .now) (entered (counted (c .before)) .args .taken .now) (c .before .loop2 .j) (c .before .loop2 .inv .word)
@@ -63,7 +63,7 @@ loop-less c = omega (arith, room-left (c .before .before .before))
 loop-again : tie.Need-loop-again Inv-loop μ-loop Inv-loop2 μ-loop2
 loop-again c =
     let turn = c .before .before in
-    climbing-step (turn .before .loop .inv) (turn .loop-test .taken) (c .wide .ensures)
+    climbing-step (turn .before .loop .inv) (λ z. omega (arith, turn .loop-test .taken)) (c .wide .ensures)
 
 slice-write-sequence : tie.Need-slice-write-sequence Inv-loop μ-loop Inv-loop2 μ-loop2
 slice-write-sequence c = omega (arith, room-left (c .before))

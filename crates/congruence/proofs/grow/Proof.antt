@@ -1,5 +1,4 @@
--- `congruence::grow` goes on by passes until the goal lies within, or one adds nothing.
-use mathlib.Core.Logic.{⊎-elim, inl, inr}
+-- `congruence::grow` goes on by passes until one adds nothing.
 use Prim.Native.Nat.{_-_, _^_}
 use native.Mathlib.Omega.{arith}
 use borrow.Author.Needs.{needs}
@@ -22,26 +21,20 @@ loop-holds c = held-none (c .before .before .fits .set .fits)
 pass-requires : tie.Need-pass-requires Inv-loop μ-loop
 pass-requires c κs = search needs
 
-within-requires : tie.Need-within-requires Inv-loop μ-loop
-within-requires c κs = search needs
-
 loop-less : tie.Need-loop-less Inv-loop μ-loop
 loop-less c =
-    let pass = c .before .before .before in
-    omega (arith, within-le (grown-within (pass .pass .ensures .grown)), pass .pass .ok)
+    let passed = c .before in
+    omega (arith, within-le (grown-within (passed .pass .ensures .grown)), passed .pass .ok)
 
 loop-again : tie.Need-loop-again Inv-loop μ-loop
 loop-again c =
-    let pass = c .before .before .before in
-    record { grown = grown-on (pass .before .loop .inv .grown) (pass .pass .ensures .grown); fits = pass .pass .ok }
+    let passed = c .before in
+    record { grown = grown-on (passed .before .loop .inv .grown) (passed .pass .ensures .grown); fits = passed .pass .ok }
 
 returns : tie.Need-returns Inv-loop μ-loop
 returns c =
-    let pass = c .before in
-    record {
-      grown = grown-on (pass .before .loop .inv .grown) (pass .pass .ensures .grown);
-      ended = ⊎-elim (λ w. inr (pass .pass .ensures .still (w .taken))) (λ w. inl (w .1 .ensures .sound (w .2 .taken))) (c .if1 .came);
-    }
+    let passed = c .before in
+    record { grown = grown-on (passed .before .loop .inv .grown) (passed .pass .ensures .grown); ended = passed .pass .ensures .still (c .if1 .taken) }
 
 pub grow-spec : {M : Type 1} → statement M
 grow-spec =
@@ -51,7 +44,6 @@ grow-spec =
     μ-loop
     loop-holds
     pass-requires
-    within-requires
     loop-less
     loop-again
     returns)

@@ -7,8 +7,9 @@ use borrow.Author.Needs.{needs}
 use lib.ListN.{length, take, getD}
 use lib.Seq.{length-take-le}
 use Rattle.text.specs.Text.{word, decimal, line}
-use Rattle.text.proofs.Putting.{put-then, put-as}
-use Rattle.report.proofs.Lengths.{head-short, pairs-short, names-short}
+use Rattle.lent.proofs.Putting.{put-then, put-as}
+use Rattle.text.proofs.Lines.{head-short, refusal-short}
+use Rattle.report.proofs.Lengths.{pairs-short, names-short}
 use Rattle.report.proofs.Answered.{answer-same, answer-different, answer-full, answer-refused, few-same, short-different}
 use Rattle.report.proofs.put_answer.Statement.{statement}
 use Rattle.report.proofs.put_answer.Tie as tie
@@ -160,7 +161,7 @@ enum-known-answer-4 : tie.Need-enum-known-answer-4
 enum-known-answer-4 c = search needs
 
 put-refusal-requires : tie.Need-put-refusal-requires
-put-refusal-requires c κs = search needs
+put-refusal-requires c κs = omega (arith, refusal-short (c .before .before .answer4 .given .0 .0) 0)
 
 -- ---- what each arm has put
 

@@ -5,7 +5,7 @@ use mathlib.Core.Path.{_≡_}
 use native.Mathlib.Omega.{arith}
 use lib.ListN.{length, drop, getD}
 use Rattle.text.specs.Text.{decimal, line}
-use Rattle.text.proofs.Putting.{Left, left-first, left-length, left-room, left-step, left-done}
+use Rattle.lent.proofs.Putting.{Left, left-first, left-length, left-room, left-step, left-done}
 use Rattle.report.specs.Inner.{pairLines}
 use Rattle.report.proofs.Lines.{pairs-none, pairs-step}
 use Rattle.report.proofs.put_records.Statement.{statement}

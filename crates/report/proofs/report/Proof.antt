@@ -7,6 +7,7 @@ use borrow.Author.Needs.{needs}
 use lib.ListN.{length}
 use lib.Seq.{length-take-le}
 use Rattle.numbers.specs.Numbers.{AreBytes}
+use Rattle.text.proofs.Lines.{refusal-short}
 use Rattle.report.proofs.Reporting.{refusal-reported, Accepted, accepted, few-rows, answer-small, answer-reported}
 use Rattle.report.proofs.report.Statement.{statement}
 use Rattle.report.proofs.report.Tie as tie
@@ -68,7 +69,9 @@ enum-known-file : tie.Need-enum-known-file
 enum-known-file c = search needs
 
 put-refusal-requires : tie.Need-put-refusal-requires
-put-refusal-requires c κs = search needs
+put-refusal-requires c κs =
+    let given = c .before .before .file .given in
+    omega (arith, refusal-short (given .0 .0) (given .0 .1 .0))
 
 enum-known-file-2 : tie.Need-enum-known-file-2
 enum-known-file-2 c = search needs

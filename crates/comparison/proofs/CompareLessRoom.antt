@@ -1,4 +1,4 @@
--- The call in a smaller room: FULL exactly when the walk has to keep one more pair than the room allows, and what is left then. Assumes nothing.
+-- The call in a smaller room: the same, or FULL with the first records of the larger one. Assumes nothing.
 use mathlib.Core.Path.{_≡_, refl, sym, ap, _∙_}
 use mathlib.Core.Logic.{_↔_}
 use mathlib.Core.List.{List, [], _∷_, map}
@@ -11,43 +11,19 @@ use Rattle.verdict.proofs.Ordered.{apart}
 use Rattle.lent.proofs.Laying.{take-lay-less, getD-lay}
 use Rattle.pattern.specs.Pattern.{Sized}
 use Rattle.walk.specs.Walk.{Question, Record, Outcome, keptOf, wordOf, Walk}
-use Rattle.walk.specs.Walk.Outcome.{Same, Different, Full}
 use Rattle.walk.specs.Columns.{Field, value, Columns, column, columnsOf, layColumns, firsts}
-use Rattle.walk.specs.Meaning.{Proper, numberKept, cutTo, Outgrows}
+use Rattle.walk.specs.Meaning.{numberKept, cutTo}
 use Rattle.walk.proofs.Columns.{columns-path}
 use Rattle.walk.proofs.WalkUnique.{walk-unique}
 use Rattle.walk.proofs.LessRoom.{room-suffices, less-room}
-use Rattle.walk.proofs.FullExactly.{full-exactly}
-use Rattle.comparison.specs.Answers.{numberOf, valuesOf, Lent, Call, answerOf, layOut, Compared}
+use Rattle.comparison.specs.Answers.{numberOf, valuesOf, Lent, answerOf, layOut, Compared}
 use Rattle.comparison.specs.Answers.Compared.{refuses, walks}
-use Rattle.comparison.specs.Meaning.{Roomy, SameWritten, LessRoom}
+use Rattle.comparison.specs.Meaning.{IsRefused, Roomy, SameWritten, LessRoom}
 use Rattle.comparison.specs.declared.Answer.{Answer}
-use Rattle.comparison.proofs.Asking.{compare-fine, refusal-number}
+use Rattle.comparison.proofs.Asking.{compare-fine}
 use Rattle.comparison.proofs.Standing.{laid, firsts-laid}
 use Rattle.comparison.proofs.CompareHonest.{compare-honest}
 use Rattle.comparison.proofs.CompareRoom.{alike, kept-is}
-
--- ---- FULL, by the walk
-
-is-full : (o : Outcome) → numberOf (answerOf o) ≡ 2 → (kept : List Record) × (e : ℕ) × (o ≡ Full kept e)
-is-full (Same kept e) z = absurd (omega arith)
-is-full (Different kept e w) z = absurd (omega arith)
-is-full (Full kept e) z = (kept, e, refl)
-
--- 2 exactly when nothing is refused and the walk has to keep one more pair than the room allows
-pub compare-full-exactly : {c : Call} {a : Answer} {later : Lent} → Compared c a later
-    → (numberOf a ≡ 2) ↔ (Proper (c .question) × Roomy (c .room) (c .lent) × Outgrows (c .question) (c .room))
-compare-full-exactly {c} (refuses e) = (λ z. absurd (omega (arith, refusal-number c e)), λ g. apart (compare-fine c .1 (g .0, g .1)) e)
-compare-full-exactly {c} (walks {o} f w) = (to, fro)
-  where
-    to : numberOf (answerOf o) ≡ 2 → Proper (c .question) × Roomy (c .room) (c .lent) × Outgrows (c .question) (c .room)
-    to z =
-        let (p, r) = compare-fine c .0 f in
-        let (kept, e, g) = is-full o z in
-        (p, r, full-exactly p (c .room) .0 (kept, e, rw g at w))
-
-    fro : Proper (c .question) × Roomy (c .room) (c .lent) × Outgrows (c .question) (c .room) → numberOf (answerOf o) ≡ 2
-    fro (p, r, g) = let (kept, e, v) = full-exactly p (c .room) .1 g in ap (λ (u : Outcome). numberOf (answerOf u)) (walk-unique w v)
 
 -- ---- the first records of a list that holds more
 
@@ -103,15 +79,15 @@ module _ {Q : Question} (sized : Sized (Q .pattern .states) (Q .pattern .letters
 -- the larger call says all of the smaller: its answer and its numbers, and the records that it leaves
 pub compare-less-room : {Q : Question} {room more : ℕ} {lent lent′ : Lent} {a b : Answer} {l m : Lent} → room ≤ more → Roomy room lent
     → Compared (record { question = Q; room = room; lent = lent }) a l → Compared (record { question = Q; room = more; lent = lent′ }) b m
-    → numberOf b ≤ 2 → LessRoom (Q .pattern .letters) room b m a l
-compare-less-room le r x (refuses e) t = absurd (omega (arith, refusal-number _ e))
+    → (IsRefused b → ⊥) → LessRoom (Q .pattern .letters) room b m a l
+compare-less-room le r x (refuses e) t = absurd (t tt)
 compare-less-room le r (refuses e) (walks g w) t = apart (compare-fine _ .1 (compare-fine _ .0 g .0, r)) e
 compare-less-room {lent = lent} {lent′} le r (walks {o} f v) (walks {o = o′} g w) t = less (compare-fine _ .0 g .0 .valid .sized) le lent lent′ o o′ v w
 
 -- FULL in the smaller exactly when the larger keeps more than it allows
 pub compare-full-beside : {Q : Question} {room more : ℕ} {lent lent′ : Lent} {a b : Answer} {l m : Lent} → room < more → Roomy room lent
     → Compared (record { question = Q; room = room; lent = lent }) a l → Compared (record { question = Q; room = more; lent = lent′ }) b m
-    → numberOf b ≤ 2 → (numberOf a ≡ 2) ↔ (room < valuesOf b .kept)
+    → (IsRefused b → ⊥) → (numberOf a ≡ 2) ↔ (room < valuesOf b .kept)
 compare-full-beside {Q} {room} {a = a} {b} {l} {m} lt r x y t = (λ z. pick z (decLt room (valuesOf b .kept)), λ h. ap numberOf (less-said .full h .0))
   where
     less-said : LessRoom (Q .pattern .letters) room b m a l
@@ -119,4 +95,4 @@ compare-full-beside {Q} {room} {a = a} {b} {l} {m} lt r x y t = (λ z. pick z (d
 
     pick : numberOf a ≡ 2 → Dec (room < valuesOf b .kept) → room < valuesOf b .kept
     pick z (yes h) = h
-    pick z (no n) = omega (arith, compare-honest y t .full (ap numberOf (sym (less-said .same (omega arith) .0)) ∙ z))
+    pick z (no n) = omega (arith, compare-honest y .room-kept (ap numberOf (sym (less-said .same (omega arith) .0)) ∙ z))

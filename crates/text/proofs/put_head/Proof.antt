@@ -1,14 +1,14 @@
--- `report::put_head` puts the name, the numbers with a space in front of each, and the newline.
+-- `text::put_head` puts the name, the numbers with a space in front of each, and the newline.
 use mathlib.Core.List.{_∷_, map}
 use mathlib.Core.Path.{_≡_}
 use Prim.Native.Nat.{_+_}
 use native.Mathlib.Omega.{arith}
 use borrow.Author.Needs.{needs}
 use lib.ListN.{length}
 use Rattle.text.specs.Text.{decimal, spaced, line}
-use Rattle.report.proofs.Lines.{whole-length, put-whole}
-use Rattle.report.proofs.put_head.Statement.{statement}
-use Rattle.report.proofs.put_head.Tie as tie
+use Rattle.text.proofs.Lines.{whole-length, put-whole}
+use Rattle.text.proofs.put_head.Statement.{statement}
+use Rattle.text.proofs.put_head.Tie as tie
 
 -- what the whole line takes
 takes : (s : tie.Start) → length (line (s .args .name .now ∷ map decimal (s .args .numbers .now)))

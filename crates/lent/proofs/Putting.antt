@@ -1,4 +1,4 @@
--- Bytes put into a list from a place on: what that means, one run after another, and a loop's record of what is left. Assumes nothing.
+-- Values put into a list from a place on: what that means, one run after another, and a loop's record of what is left. Assumes nothing.
 use mathlib.Core.Path.{_≡_, refl, sym, ap, _∙_}
 use mathlib.Core.List.{List, [], _∷_, _++_, append-assoc, append-nil}
 use Prim.Native.Nat.{ℕ, _+_, _<_, _≤_}
@@ -7,7 +7,8 @@ use native.Mathlib.Numerals.{add-one}
 use native.Mathlib.Omega.{arith}
 use lib.ListN.{length, take, drop, getD, set, length-append, length-drop, take-append-drop}
 use lib.Seq.{length-take-le, take-at, drop-at, drop-drop, drop-cons, set-split, append-snoc}
-use Rattle.text.specs.Text.{Put}
+use Rattle.lent.specs.Lent.{lay, Put}
+use Rattle.lent.proofs.Laying.{lay-at-start, lay-at-parts}
 
 -- ---- what Put means
 
@@ -22,55 +23,59 @@ module _ {old : List ℕ} {at : ℕ} {a : List ℕ} {next : ℕ} {new : List ℕ
   unfolding front
   front-length = length-append (take at old) a ∙ omega (arith, at-length, p .ends)
 
+  -- what stood before them, the values, and what stood after them
+  pub put-parts : new ≡ take at old ++ a ++ drop next old
+  put-parts = p .laid ∙ lay-at-parts at a old ∙ rw (p .ends)
+
   pub put-length : length new ≡ length old
   unfolding front
   put-length =
-      ap length (p .stored) ∙ length-append front (drop next old)
+      ap length put-parts ∙ length-append front (drop next old)
       ∙ omega (arith, front-length, length-drop next old, p .within)
 
   -- what stands up to their end
   pub put-ending : take next new ≡ take at old ++ a
   unfolding front
-  put-ending = ap (take next) (p .stored) ∙ take-at front (drop next old) next front-length
+  put-ending = ap (take next) put-parts ∙ take-at front (drop next old) next front-length
 
   -- what stands after them is as it was
   pub put-back : drop next new ≡ drop next old
   unfolding front
-  put-back = ap (drop next) (p .stored) ∙ drop-at front (drop next old) next front-length
+  put-back = ap (drop next) put-parts ∙ drop-at front (drop next old) next front-length
 
   -- what stands before them is as it was
   pub put-front : take at new ≡ take at old
-  put-front = ap (take at) (p .stored ∙ append-assoc (take at old) a (drop next old)) ∙ take-at (take at old) (a ++ drop next old) at at-length
+  put-front = ap (take at) (put-parts ∙ append-assoc (take at old) a (drop next old)) ∙ take-at (take at old) (a ++ drop next old) at at-length
 
-  -- the bytes are found where they were put
+  -- the values are found where they were put
   pub put-found : take (length a) (drop at new) ≡ a
   put-found =
-      ap (λ (l : List ℕ). take (length a) (drop at l)) (p .stored ∙ append-assoc (take at old) a (drop next old))
+      ap (λ (l : List ℕ). take (length a) (drop at l)) (put-parts ∙ append-assoc (take at old) a (drop next old))
       ∙ ap (take (length a)) (drop-at (take at old) (a ++ drop next old) at at-length)
       ∙ take-at a (drop next old) (length a) refl
 
--- two results of putting the same bytes at the same place are equal
+-- at the start of a list they lie over it
+pub put-laid : {old a : List ℕ} {next : ℕ} {new : List ℕ} → Put old 0 a next new → new ≡ lay a old
+put-laid {old} {a} p = p .laid ∙ lay-at-start a old
+
+-- two results of putting the same values at the same place are equal
 pub put-determined : {old : List ℕ} {at : ℕ} {a : List ℕ} {next next′ : ℕ} {new new′ : List ℕ}
     → Put old at a next new → Put old at a next′ new′ → (next ≡ next′) × (new ≡ new′)
 put-determined p q = (cc, cc)
 
 -- ---- one run, and one after another
 
+-- from the parts
+put-made : (old : List ℕ) (at : ℕ) (a : List ℕ) {next : ℕ} {new : List ℕ} → next ≡ at + length a → next ≤ length old → new ≡ take at old ++ a ++ drop next old
+    → Put old at a next new
+put-made old at a e h parts = record { ends = e; within = h; laid = parts ∙ rw e (sym (lay-at-parts at a old)) }
+
 pub put-none : (old : List ℕ) (at : ℕ) → at ≤ length old → Put old at [] at old
 put-none old at h =
-    record {
-      ends = sym (add-zero at);
-      within = h;
-      stored = sym (ap (λ (l : List ℕ). l ++ drop at old) (append-nil (take at old)) ∙ take-append-drop at old);
-    }
+    put-made old at [] (sym (add-zero at)) h (sym (ap (λ (l : List ℕ). l ++ drop at old) (append-nil (take at old)) ∙ take-append-drop at old))
 
 pub put-one : (old : List ℕ) (at b : ℕ) → at < length old → Put old at (b ∷ []) (at + 1) (set old at b)
-put-one old at b h =
-    record {
-      ends = refl;
-      within = omega arith;
-      stored = set-split old at b h ∙ rw (append-snoc, add-one);
-    }
+put-one old at b h = put-made old at (b ∷ []) refl (omega arith) (set-split old at b h ∙ rw (append-snoc, add-one))
 
 pub put-as : {old : List ℕ} {at : ℕ} {a b : List ℕ} {next : ℕ} {new : List ℕ} → Put old at a next new → a ≡ b → Put old at b next new
 put-as p e = rw e at p
@@ -78,15 +83,11 @@ put-as p e = rw e at p
 pub put-then : {old : List ℕ} {at : ℕ} {a : List ℕ} {place : ℕ} {mid b : List ℕ} {next : ℕ} {new : List ℕ}
     → Put old at a place mid → Put mid place b next new → Put old at (a ++ b) next new
 put-then {old} {at} {a} {place} {mid} {b} {next} {new} p q =
-    record {
-      ends = omega (arith, p .ends, q .ends, length-append a b);
-      within = omega (arith, q .within, put-length p);
-      stored =
-          q .stored
-          ∙ ap (λ (l : List ℕ). l ++ b ++ drop next mid) (put-ending p)
-          ∙ ap (λ (l : List ℕ). take at old ++ a ++ b ++ l) beyond
-          ∙ ap (λ (l : List ℕ). l ++ drop next old) (append-assoc (take at old) a b);
-    }
+    put-made old at (a ++ b) (omega (arith, p .ends, q .ends, length-append a b)) (omega (arith, q .within, put-length p))
+    (put-parts q
+    ∙ ap (λ (l : List ℕ). l ++ b ++ drop next mid) (put-ending p)
+    ∙ ap (λ (l : List ℕ). take at old ++ a ++ b ++ l) beyond
+    ∙ ap (λ (l : List ℕ). l ++ drop next old) (append-assoc (take at old) a b))
   where
     beyond : drop next mid ≡ drop next old
     beyond = rw (q .ends) (sym (drop-drop (length b) place mid) ∙ ap (drop (length b)) (put-back p) ∙ drop-drop (length b) place old)
@@ -106,10 +107,13 @@ left-first old at all h = record { done = []; put = put-none old at (omega arith
 pub left-length : {old : List ℕ} {at : ℕ} {all out : List ℕ} {place : ℕ} {rest : List ℕ} → Left old at all out place rest → length out ≡ length old
 left-length g = put-length (g .put)
 
+-- what is left fits
+pub left-fits : {old : List ℕ} {at : ℕ} {all out : List ℕ} {place : ℕ} {rest : List ℕ} → Left old at all out place rest → place + length rest ≤ length out
+left-fits {rest = rest} g = omega (arith, g .room, g .put .ends, left-length g, ap length (g .whole), length-append (g .done) rest)
+
 pub left-room : {old : List ℕ} {at : ℕ} {all out : List ℕ} {place : ℕ} {rest : List ℕ} (a b : List ℕ)
     → Left old at all out place rest → rest ≡ a ++ b → place + length a ≤ length out
-left-room {rest = rest} a b g e =
-    omega (arith, g .room, g .put .ends, left-length g, ap length (g .whole), length-append (g .done) rest, ap length e, length-append a b)
+left-room a b g e = omega (arith, left-fits g, ap length e, length-append a b)
 
 pub left-step : {old : List ℕ} {at : ℕ} {all out : List ℕ} {place : ℕ} {rest a : List ℕ} (b : List ℕ) {next : ℕ} {new : List ℕ}
     → Left old at all out place rest → rest ≡ a ++ b → Put out place a next new → Left old at all new next b

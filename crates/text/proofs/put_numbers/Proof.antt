@@ -1,14 +1,14 @@
--- `report::put_numbers` puts its numbers, each with a space in front: in each turn those from i on are left, to be put from the place on.
+-- `text::put_numbers` puts its numbers, each with a space in front: in each turn those from i on are left, to be put from the place on.
 use Prim.Native.Nat.{ℕ, _≤_, _+_, _-_}
 use mathlib.Core.List.{List, _++_, map}
 use mathlib.Core.Path.{_≡_}
 use native.Mathlib.Omega.{arith}
 use lib.ListN.{length, drop, getD}
 use Rattle.text.specs.Text.{word, decimal, spaced}
-use Rattle.text.proofs.Putting.{Left, left-first, left-length, left-room, left-step, left-done}
-use Rattle.report.proofs.Lines.{spaced-none, spaced-step}
-use Rattle.report.proofs.put_numbers.Statement.{statement}
-use Rattle.report.proofs.put_numbers.Tie as tie
+use Rattle.lent.proofs.Putting.{Left, left-first, left-length, left-room, left-step, left-done}
+use Rattle.text.proofs.Lines.{spaced-none, spaced-step}
+use Rattle.text.proofs.put_numbers.Statement.{statement}
+use Rattle.text.proofs.put_numbers.Tie as tie
 
 -- what is to be put from the place i of the list on
 abbrev from : List ℕ → ℕ → List ℕ

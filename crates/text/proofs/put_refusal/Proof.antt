@@ -1,12 +1,8 @@
--- `report::put_refusal` puts the one line of a refusal.
-use mathlib.Core.List.{[], _∷_}
-use native.Mathlib.Omega.{arith}
+-- `text::put_refusal` puts the one line of a refusal.
 use borrow.Author.Needs.{needs}
-use Rattle.text.specs.Text.{word}
-use Rattle.report.specs.Report.{refusalText}
-use Rattle.report.proofs.Lengths.{head-short}
-use Rattle.report.proofs.put_refusal.Statement.{statement}
-use Rattle.report.proofs.put_refusal.Tie as tie
+use Rattle.text.specs.Text.{refusalText}
+use Rattle.text.proofs.put_refusal.Statement.{statement}
+use Rattle.text.proofs.put_refusal.Tie as tie
 
 slice-aggregate-put-head : tie.Need-slice-aggregate-put-head
 slice-aggregate-put-head c = search needs
@@ -15,9 +11,8 @@ slice-aggregate-put-head-2 : tie.Need-slice-aggregate-put-head-2
 slice-aggregate-put-head-2 c = search needs
 
 put-head-requires : tie.Need-put-head-requires
-put-head-requires c κs =
-    let args = c .before .before .before .before .args in
-    omega (arith, head-short (word "REFUSED") (args .number ∷ args .place ∷ []))
+unfolding refusalText
+put-head-requires c κs = search needs
 
 same-length : tie.Need-same-length
 same-length c = search needs
