@@ -41,8 +41,7 @@ pub answers-honest : {room : ℕ} {input rows : List ℕ} {lent : Lent} {answer 
     → Answers room input rows lent (Asked.Answered answer) rows′ l → (Q : Question) × Asks input Q × (numberOf answer ≤ 2) × Honest (callFor Q room lent) answer l
 answers-honest {room} {lent = lent} are roomy (answers {Q} {o} a w) =
     let compared : Compared (callFor Q room lent) (answerOf o) (layOut (keptOf o) (wordOf o) lent) = Compared.walks (never-refused are a roomy) w in
-    let low = compare-valid (asks-proper are a) roomy compared in
-    (Q, a, low, compare-honest compared low)
+    (Q, a, compare-valid (asks-proper are a, roomy) compared, compare-honest compared)
 
 -- ---- a file that was refused
 
