@@ -445,24 +445,24 @@ module _ {M : Type 1} (𝓤 : URA M) (H : Heap 𝓤) (A : Atoms 𝓤) (W : Given
   plainly-is = refl
 
   module _ (C : Calls 𝓤 H) (Λ : Loops 𝓤 H) (fm : FmC 𝓤 H (W .laws) C) %s where
-    walk : ent 𝓤 (%s) (WpFn 𝓤 H C Λ plainly machine Post)
-    walk =
+    runs : ent 𝓤 (%s) (WpFn 𝓤 H C Λ plainly machine Post)
+    runs =
         qed W (%s ∷ ‵ (owns Types args vals) ∷ []) ∵
         enter ! C Λ plainly machine _ $
 %s
 
-    walk-code : ent 𝓤 (%s) (WpFn 𝓤 H C Λ code.function machine Post)
-    walk-code = subst (λ (g : Fn). ent 𝓤 (%s) (WpFn 𝓤 H C Λ g machine Post)) plainly-is walk
+    runs-code : ent 𝓤 (%s) (WpFn 𝓤 H C Λ code.function machine Post)
+    runs-code = subst (λ (g : Fn). ent 𝓤 (%s) (WpFn 𝓤 H C Λ g machine Post)) plainly-is runs
 
 module _ {M : Type 1} (𝓤 : URA M) (H : Heap 𝓤) (A : Atoms 𝓤) (W : Given 𝓤 H A) (mem : Memory → SProp 𝓤) (run : Routine → Fun 𝓤) where
-  entry-walks : (C : Calls 𝓤 H) (Λ : Loops 𝓤 H) → FmC 𝓤 H (W .laws) C → %s
+  entry-runs : (C : Calls 𝓤 H) (Λ : Loops 𝓤 H) → FmC 𝓤 H (W .laws) C → %s
       → Walks 𝓤 H A f.ended stayed (WpFn 𝓤 H C Λ code.function) (f.clauses 𝓤 H A mem run)
-  entry-walks C Λ fm %s =
+  entry-runs C Λ fm %s =
       walked 𝓤 H A f.ended stayed (f.clauses 𝓤 H A mem run) (WpFn 𝓤 H C Λ code.function)
       (λ κs. %s)
       (λ κs. %s)
       (λ κs qs bounds a g are. via 𝓤 _ (fst∗ 𝓤 _ (emp 𝓤))
-      (walk-code 𝓤 H A W mem run %s C Λ fm %s))
+      (runs-code 𝓤 H A W mem run %s C Λ fm %s))
 
   goes : AllGo 𝓤 H A W %d (f.signature .params) (f.ended .kept) stayed
   goes = %s
@@ -471,7 +471,7 @@ entry-meets : {M : Type 1} (𝓤 : URA M) (H : Heap 𝓤) (A : Atoms 𝓤) → G
     → Meets 𝓤 H A f.signature (WpFn 𝓤 H (𝓣 .C) (𝓣 .Λ) code.function) (f.spec 𝓤 H A mem run)
 entry-meets 𝓤 H A W mem run 𝓣 %s =
     walk-meets 𝓤 H A f.ended stayed W (goes 𝓤 H A W mem run) (f.clauses 𝓤 H A mem run)
-    (WpFn 𝓤 H (𝓣 .C) (𝓣 .Λ) code.function) (WpFn-mono 𝓤 H (W .laws) 𝓣 code.function) (entry-walks 𝓤 H A W mem run (𝓣 .C) (𝓣 .Λ) (fmOf 𝓤 H (W .laws) 𝓣) %s)
+    (WpFn 𝓤 H (𝓣 .C) (𝓣 .Λ) code.function) (WpFn-mono 𝓤 H (W .laws) 𝓣 code.function) (entry-runs 𝓤 H A W mem run (𝓣 .C) (𝓣 .Λ) (fmOf 𝓤 H (W .laws) 𝓣) %s)
 
 pub %s-spec : {M : Type 1} → stated.statement M
 unfolding code.routine tablesOf

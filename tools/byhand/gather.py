@@ -15,7 +15,7 @@ def test(c):
 
 
 def typed(xs, v, known):
-    return '(array-typed u64 (uint-lawful 𝓤 H A W w64 .typed) 1025 %s (%s ∷ []) %s .0)' % (xs, v, known)
+    return '(array-typed u64 (uint-lawful 𝓤 H A W w64 .typed) mostShown %s (%s ∷ []) %s .0)' % (xs, v, known)
 
 
 # ---- one turn
@@ -77,8 +77,8 @@ for k, slot in [(1, 3), (2, 4)]:
     j = sub(k)
     c.say('-- the elements are one array again')
     c.move('row%d' % k)
-    c.say('feqI ! ℕ (length (at%s n)) 1025 (len%s n) $ fjoin ! $' % (j, j))
-    c.say('use1 W (‵ (partAt Column fullShare (at%s n) %s 0)) (array-whole 𝓤 H A W u64 fullShare 1025 (at%s n) %s 0) $' % (j, l(slot), j, l(slot)))
+    c.say('feqI ! ℕ (length (at%s n)) mostShown (len%s n) $ fjoin ! $' % (j, j))
+    c.say('use1 W (‵ (partAt Column fullShare (at%s n) %s 0)) (array-whole 𝓤 H A W u64 fullShare mostShown (at%s n) %s 0) $' % (j, l(slot), j, l(slot)))
     c.bind('fpick ! (λ vs%s.' % j)
     c.say('fsplit ! $')
     c.head(1, '_%d' % slot, 'own')
@@ -150,7 +150,7 @@ for k, xs, slot in [(1, 'xs', 3), (2, 'ys', 4)]:
     c.say('-- an array is its elements')
     c.fjoin('_%d' % slot, 'own%d' % k, 'array')
     c.say('fpack ! (List Val) (λ vs. fsep (cellAt fullShare (Column .mir) vs %s 0) (Column .own %s vs)) (v%s ∷ []) $' % (l(slot), xs, sub(k)))
-    c.say('use1 W (‵ (arr-parts (shares u64) 1025 .part fullShare %s %s 0)) (array-apart 𝓤 H A W u64 fullShare tt 1025 %s %s 0) $' % (xs, l(slot), xs, l(slot)))
+    c.say('use1 W (‵ (arr-parts (shares u64) mostShown .part fullShare %s %s 0)) (array-apart 𝓤 H A W u64 fullShare tt mostShown %s %s 0) $' % (xs, l(slot), xs, l(slot)))
     c.say('fsplit ! $')
     c.bind('feqL ! (λ %s-long.' % xs)
     c.head(1, 'row%d' % k)

@@ -9,9 +9,9 @@ n = Number('n', 'usize', local='_8')
 sides = Struct('r', 'S', 'Sides', 'v', 'is', '_9')
 count, count_known = [('n', 'ℕ')], [('n-fits', 'n < 2 ^ 64')]
 shown = Callee('shown', [listed], ('number',), 'Shown (length (records .now)) z ')
-gather = Callee('gather', [records, n], ('struct', 'S', 'Sides'), 'Gathers (records .now) n z ', count, count_known + [('within', '(n ≤ 1025) × (n ≤ length (records .now))')], 'within')
+gather = Callee('gather', [records, n], ('struct', 'S', 'Sides'), 'Gathers (records .now) n z ', count, count_known + [('within', '(n ≤ mostShown) × (n ≤ length (records .now))')], 'within')
 check_sides = Callee('check_sides', numbers + [rows] + sets + [n, sides], ('struct', 'E', 'PbChecked'),
-                     'ChecksOffer (offerOf states letters finals (rows .now) x y (take n (r .lefts)) (take n (r .rights))) z ',
+                     'CheckedOffer (offerOf states letters finals (rows .now) x y (take n (r .lefts)) (take n (r .rights))) z ',
                      count + [('r', 'Sides'), ('v', 'Val')], count_known + [('is', 'Is S.the-row r (v ∷ [])'), ('within', '(n ≤ length (r .lefts)) × (n ≤ length (r .rights))')], 'within')
 
 entry = Entry(
@@ -24,9 +24,9 @@ use @specs Evidence@.{offerOf}
 use @type PbRecord@.{PbRecord}
 use @type PbChecked@.{PbChecked}
 use @type Sides@.{Sides}
-use @specs Checks@.{ChecksOffer}
-use @specs Records@.{leftsOf, rightsOf}
-use @specs Inner@.{Shown, Gathers}
+use @specs Answers@.{CheckedOffer}
+use @specs Records@.{columnsIn}
+use @specs Inner@.{mostShown, Shown, Gathers}
 use @proofs Gathering@.{shown-fits, checks-shown}
 use @row PbRecord@ as T
 use @row PbChecked@ as E
@@ -40,7 +40,7 @@ abbrev recordsTy : Ty
 recordsTy = sliceTy (tyRef (named 1) imm recTy)
 ''',
     '',
-    'ChecksOffer (offerOf states letters finals (rows .now) x y (leftsOf (records .now)) (rightsOf (records .now))) z')
+    'CheckedOffer (offerOf states letters finals (rows .now) x y (columnsIn (records .now) .lefts) (columnsIn (records .now) .rights)) z')
 
 c = entry.body()
 c.set('_10', '(of-opd ! %s)' % c.field('_7', 1), '(tt, record { fits = records-room .0 })')

@@ -9,9 +9,9 @@ listed = Number('length (records .now)', 'usize', 'records-room .0', '_12')
 found = Struct('r', 'F', 'Found', 'v', 'is', '_10')
 kept = Number('k', 'usize', 'k-fits', '_11')
 seen, known = [('r', 'Found'), ('v', 'Val')], [('is', 'Is F.the-row r (v ∷ [])')]
-find = Callee('find', numbers + [rows] + sets + [room, listed, sequence], ('struct', 'F', 'Found'), 'Finds Q room (length (records .now)) (sequence .now) z (@WS@%s .0)' % (' .1' * 8))
+find = Callee('find', numbers + [rows] + sets + [room, listed, sequence], ('struct', 'F', 'Found'), 'FoundFor Q room (length (records .now)) (sequence .now) z (@WS@%s .0)' % (' .1' * 8))
 kept_in = Callee('kept_in', [found], ('number',), 'z ≡ r .compared .kept', seen, known)
-fill = Callee('fill', [found, kept, records], ('unit',), '@WS@ .1 .1 .0 ≡ filled r (records .now) k', seen + [('k', 'ℕ')], known + [('k-fits', 'k < 2 ^ 64'), ('within', '(k ≤ 1024) × (k ≤ length (records .now))')], 'within')
+fill = Callee('fill', [found, kept, records], ('unit',), '@WS@ .1 .1 .0 ≡ filled r (records .now) k', seen + [('k', 'ℕ')], known + [('k-fits', 'k < 2 ^ 64'), ('within', '(k ≤ maxRoom) × (k ≤ length (records .now))')], 'within')
 compared_in = Callee('compared_in', [found], ('struct', 'E', 'PbCompared'), 'z ≡ r .compared', seen, known)
 
 entry = Entry(
@@ -23,9 +23,10 @@ entry = Entry(
 use @type PbRecord@.{PbRecord}
 use @type PbCompared@.{PbCompared}
 use @type Found@.{Found}
-use @specs Records@.{Enters}
-use @specs Inner@.{Finds, filled}
-use @proofs Entering@.{enters-found, kept-within}
+use @specs Rooms@.{maxRoom}
+use @specs Records@.{ComparedRecords}
+use @specs Inner@.{FoundFor, filled}
+use @proofs Finding@.{found-written, kept-within}
 use @row PbRecord@ as T
 use @row PbCompared@ as E
 use @row PbCompared@.Laws as E′
@@ -44,7 +45,7 @@ bytesTy = sliceTy (tyRef (named 2) mut byte)
   Q = questionOf states letters finals (rows .now) x y
 
 ''',
-    'Enters Q room (records .now) (sequence .now) z last-records last-sequence')
+    'ComparedRecords Q room (records .now) (sequence .now) z last-records last-sequence')
 
 c = entry.body()
 c.set('_12', '(of-opd ! %s)' % c.field('_8', 1), '(tt, record { fits = records-room .0 })')
@@ -55,5 +56,5 @@ entry.call(c, kept_in, '_11', 'k', 'v₁', 'kept', 'is₁', 'r v is')
 entry.lends(c, '_8', '_16', '_17', 'records')
 entry.call(c, fill, '_15', 'u', 'v₂', 'wrote', 'is₂', 'r v k is (is₁ .1) (kept-within (length (records .now)) r k found kept)')
 entry.call(c, compared_in, '_0', 'z', 'v₃', 'told', 'is₃', 'r v is')
-entry.ret(c, 'z', 'v₃', ['(ws-fill .1 .1 .0)', '(ws-find%s .0)' % (' .1' * 8)], ['long-records', 'long-sequence'], '(enters-found found kept wrote told)')
+entry.ret(c, 'z', 'v₃', ['(ws-fill .1 .1 .0)', '(ws-find%s .0)' % (' .1' * 8)], ['long-records', 'long-sequence'], '(found-written found kept wrote told)')
 entry.write()

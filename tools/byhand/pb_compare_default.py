@@ -7,7 +7,7 @@ sets = [Number('x', 'u64', local='_5'), Number('y', 'u64', local='_6')]
 room = Number('room', 'usize', local='_9')
 default_room = Callee('default_room', [], ('number',), 'z ≡ defaultRoom')
 pb_compare = Callee('pb_compare', numbers + [rows] + sets + [room, records, sequence], ('struct', 'E', 'PbCompared'),
-                    'Enters Q room (records .now) (sequence .now) z (@WS@%s .0) (@WS@%s .0)' % (' .1' * 7, ' .1' * 8), [('room', 'ℕ')], [('room-fits', 'room < 2 ^ 64')])
+                    'ComparedRecords Q room (records .now) (sequence .now) z (@WS@%s .0) (@WS@%s .0)' % (' .1' * 7, ' .1' * 8), [('room', 'ℕ')], [('room-fits', 'room < 2 ^ 64')])
 
 entry = Entry(
     'pb_compare_default', '`@rust pb_compare_default@` meets its contract, proved by hand: its code calls two functions.',
@@ -18,7 +18,7 @@ entry = Entry(
 use @specs Rooms@.{defaultRoom}
 use @type PbRecord@.{PbRecord}
 use @type PbCompared@.{PbCompared}
-use @specs Records@.{Enters}
+use @specs Records@.{ComparedRecords}
 use @row PbRecord@ as T
 use @row PbCompared@ as E
 use @row PbCompared@.Laws as E′''',
@@ -35,14 +35,14 @@ bytesTy = sliceTy (tyRef (named 2) mut byte)
   Q = questionOf states letters finals (rows .now) x y
 
 ''',
-    'Enters Q defaultRoom (records .now) (sequence .now) z last-records last-sequence')
+    'ComparedRecords Q defaultRoom (records .now) (sequence .now) z last-records last-sequence')
 
 c = entry.body()
 entry.call(c, default_room, '_9', 'room', 'v', 'default', 'is')
 entry.lends(c, '_7', '_10', '_11', 'records')
 entry.lends(c, '_8', '_12', '_13', 'sequence')
 entry.copies(c, rows)
-entry.call(c, pb_compare, '_0', 'z', 'v₁', 'entered', 'is₁', 'room (is .1)')
+entry.call(c, pb_compare, '_0', 'z', 'v₁', 'compared', 'is₁', 'room (is .1)')
 entry.ret(c, 'z', 'v₁', ['(ws-pb-compare%s .0)' % (' .1' * 7), '(ws-pb-compare%s .0)' % (' .1' * 8)], ['long-records', 'long-sequence'],
-          '(subst (λ (n : ℕ). Enters Q n (records .now) (sequence .now) z (ws-pb-compare%s .0) (ws-pb-compare%s .0)) default entered)' % (' .1' * 7, ' .1' * 8))
+          '(subst (λ (n : ℕ). ComparedRecords Q n (records .now) (sequence .now) z (ws-pb-compare%s .0) (ws-pb-compare%s .0)) default compared)' % (' .1' * 7, ' .1' * 8))
 entry.write()

@@ -3,46 +3,46 @@
 
 # the functions whose proofs are written here
 WRITTEN = {
-    'fill': ('pressbadger', 'records'),
-    'gather': ('pressbadger', 'records'),
-    'pb_check_records': ('pressbadger', 'records'),
-    'pb_compare': ('pressbadger', 'records'),
-    'pb_compare_default': ('pressbadger', 'records'),
+    'fill': ('records', 'compares'),
+    'gather': ('records', 'checks'),
+    'pb_check_records': ('pressbadger', 'checks'),
+    'pb_compare': ('pressbadger', 'compares'),
+    'pb_compare_default': ('pressbadger', 'compares'),
 }
 
 # the other functions that they call
 CALLED = {
-    'check_sides': ('pressbadger', 'records'),
-    'compared_in': ('pressbadger', 'records'),
-    'default_room': ('pressbadger', 'records'),
-    'find': ('pressbadger', 'records'),
-    'kept_in': ('pressbadger', 'records'),
-    'shown': ('pressbadger', 'records'),
-    'zeros': ('pressbadger', 'records'),
+    'check_sides': ('records', 'checks'),
+    'compared_in': ('records', 'compares'),
+    'default_room': ('pressbadger', 'compares'),
+    'find': ('records', 'compares'),
+    'kept_in': ('records', 'compares'),
+    'shown': ('records', 'checks'),
+    'zeros': ('records', 'checks'),
 }
 
 # the types of src/
 TYPES = {
-    'Found': ('pressbadger', 'records'),
-    'PbChecked': ('pressbadger', 'checks'),
-    'PbCompared': ('pressbadger', 'lists'),
-    'PbRecord': ('pressbadger', 'records'),
-    'Sides': ('pressbadger', 'records'),
+    'Found': ('records', 'compares'),
+    'PbChecked': ('records', 'answers'),
+    'PbCompared': ('records', 'answers'),
+    'PbRecord': ('records', ''),
+    'Sides': ('records', 'checks'),
 }
 
 # the files of specs/ and of proofs/
 SPECS = {
-    'Rooms': ('sets', ''),
-    'Checks': ('pressbadger', ''),
+    'Answers': ('records', ''),
     'Evidence': ('evidence', ''),
-    'Inner': ('pressbadger', ''),
+    'Inner': ('records', ''),
     'Pattern': ('pattern', ''),
-    'Records': ('pressbadger', ''),
+    'Records': ('records', ''),
+    'Rooms': ('sets', ''),
     'Walk': ('walk', ''),
 }
 LEMMAS = {
-    'Entering': ('pressbadger', ''),
-    'Gathering': ('pressbadger', ''),
+    'Finding': ('records', ''),
+    'Gathering': ('records', ''),
 }
 
 FUNCTIONS = {**WRITTEN, **CALLED}

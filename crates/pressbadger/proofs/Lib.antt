@@ -1,5 +1,2 @@
--- Laws that belong to no one function: the list of records, then that every export is determined.
-pub mod Entering
-pub mod Agreeing
-pub mod Gathering
+-- Laws that belong to no one function: every export is determined.
 pub mod Determined

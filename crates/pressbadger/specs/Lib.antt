@@ -1,7 +1,5 @@
--- What the exports answer; then what only the private functions cite.
-pub mod Host
-pub mod Lists
-pub mod Records
+-- What the exports return and leave.
+pub mod Compares
 pub mod Checks
+pub mod Judges
 pub mod Files
-pub mod Inner
