@@ -6,7 +6,6 @@
 --   Honest         what an answer means, by the numbers that a host sees (demand 2)
 --   Quiet          what a refusal leaves: every number 0, all that is lent as it was
 --   SameWritten    two calls wrote the same records and the same sequence
---   Gives          what every call with a question in a room answers, and leaves
 use mathlib.Core.Path.{_≡_}
 use mathlib.Core.Logic.{_↔_}
 use Prim.Native.Nat.{ℕ, _+_, _*_, _≤_}
@@ -18,10 +17,10 @@ use Rattle.sets.specs.Sets.{Good}
 use Rattle.sets.specs.Rooms.{maxRoom}
 use Rattle.pattern.specs.Refusals.{MasksGood, shapeLines}
 use Rattle.pattern.specs.Language.{SameLanguage}
-use Rattle.walk.specs.Walk.{Question, Outcome, keptOf, wordOf}
+use Rattle.walk.specs.Walk.{Question}
 use Rattle.walk.specs.Columns.{firsts, Fit}
 use Rattle.walk.specs.Meaning.{Proper, Outgrows, Tells}
-use Rattle.comparison.specs.Answers.{numberOf, valuesOf, Lent, Call, compareTest, answerOf, layOut, Compared}
+use Rattle.comparison.specs.Answers.{numberOf, valuesOf, Lent, Call, compareTest}
 use Rattle.comparison.specs.declared.Answer.{Answer}
 
 abbrev pub IsRefused : Answer → Type 0
@@ -78,8 +77,3 @@ pub record Quiet (c : Call) (a : Answer) (later : Lent) : Type 0 where
 pub record SameWritten (kept length : ℕ) (l m : Lent) : Type 0 where
   pub columns : firsts kept (l .columns) ≡ firsts kept (m .columns)
   pub sequence : take length (l .sequence) ≡ take length (m .sequence)
-
--- answer, values and memory, whatever is lent for the room
-pub record Gives (Q : Question) (room : ℕ) (o : Outcome) : Type 0 where
-  pub all : (lent : Lent) → Roomy room lent → (a : Answer) (later : Lent) → Compared (record { question = Q; room = room; lent = lent }) a later
-      → (a ≡ answerOf o) × (later ≡ layOut (keptOf o) (wordOf o) lent)

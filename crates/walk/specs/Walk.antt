@@ -1,4 +1,4 @@
--- The walk of document 01, as a relation. It cites congruence and the language, and runs neither the closing nor any code.
+-- The walk of the scope (§5), as a relation. It cites congruence and the language, and runs neither the closing nor any code.
 --   Question     two sets of states, X and Y, of one pattern
 --   Record       a kept record; leftsOf, rightsOf, parentsOf and lettersOf are the columns of a list of records
 --   candidate    the candidate of a number, by the records kept
