@@ -5,6 +5,7 @@
 --   Position     what the walk has done: the records kept, and how many candidates it has examined
 --   Moves        a candidate is dealt with and the walk goes on: rules 1 and 4, from any position
 --   Path, Word   the letters from the start to a record, and to a candidate
+--   Outcome      what the walk comes to; keptOf, wordOf and examinedOf are its parts
 --   Ends         the walk stops: rules 2 and 3, or no candidate is left
 --   Walk         moves from the beginning, and an end: every valid question has one outcome (`walk-ends`, `walk-unique`)
 use mathlib.Core.Path.{_≡_}
