@@ -134,6 +134,11 @@ pub compare-quiet : {c : Call} {a : Answer} {later : Lent} → Compared c a late
 compare-quiet {c} (refuses e) r = record { reason = e; kept = refl; examined = refl; length = refl; unchanged = refl }
 compare-quiet {c} (walks {o} f w) r = absurd (not-refused o r)
 
+-- an answer that is no refusal is one to a call that is not refused
+pub compare-answered : {c : Call} {a : Answer} {later : Lent} → Compared c a later → (IsRefused a → ⊥) → Comparable c
+compare-answered (refuses e) f = absurd (f tt)
+compare-answered {c} (walks g w) f = compare-fine c .0 g
+
 -- every call has a result
 pub compare-answers : (c : Call) → (a : Answer) × (later : Lent) × Compared c a later
 compare-answers c = pick (compareTest c) refl

@@ -14,10 +14,8 @@ use Rattle.walk.specs.Known.{Row, table, Known}
 use Rattle.walk.specs.Known.Row.{asks, closes}
 use Rattle.walk.specs.Known.Known.{done, row}
 use Rattle.walk.proofs.KnownAnswers.{known-answers}
-use Rattle.comparison.specs.Answers.{Call}
 use Rattle.comparison.specs.Answers.Compared.{walks}
-use Rattle.comparison.specs.Meaning.{Gives}
-use Rattle.comparison.specs.Known.{KnownCalls}
+use Rattle.comparison.specs.Known.{Gives, KnownCalls}
 use Rattle.comparison.specs.Known.KnownCalls.{none, answers, passes}
 use Rattle.comparison.proofs.Asking.{compare-fine}
 use Rattle.comparison.proofs.CompareDetermined.{compare-determined}
