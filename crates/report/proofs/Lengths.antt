@@ -1,13 +1,15 @@
 -- How long lines can be: twenty digits to a number, nine bytes to a name. Assumes nothing.
+use mathlib.Core.Path.{_≡_, sym, _∙_}
 use mathlib.Core.List.{List, [], _∷_, map}
 use Prim.Native.Nat.{ℕ, zero, suc, _+_, _*_, _<_, _≤_}
 use native.Mathlib.Omega.{arith}
 use lib.ListN.{length, take, getD, length-append}
+use lib.Seq.{length-take-le}
 use Rattle.lent.specs.Lent.{Put}
 use Rattle.lent.proofs.Putting.{put-length}
-use Rattle.text.specs.Text.{decimal, spaced, joined, line}
+use Rattle.text.specs.Text.{decimal, spaced, joined, line, refusalText}
 use Rattle.text.proofs.Decimal.{decimal-short}
-use Rattle.text.proofs.Lines.{spaced-length, line-length, whole-length, head-short}
+use Rattle.text.proofs.Lines.{spaced-length, line-length, whole-length, head-short, refusal-short}
 use Rattle.events.specs.Events.{eventName}
 use Rattle.events.proofs.Names.{name-short}
 use Rattle.report.specs.Report.{longest}
@@ -20,6 +22,9 @@ two-fit name a b size h = omega (arith, head-short name (a ∷ b ∷ []))
 
 pub three-fit : (name : List ℕ) (a b c size : ℕ) → length name + 64 ≤ size → 0 + length (line (name ∷ decimal a ∷ decimal b ∷ decimal c ∷ [])) ≤ size
 three-fit name a b c size h = omega (arith, head-short name (a ∷ b ∷ c ∷ []))
+
+pub refusal-fits : (number place size : ℕ) → 50 ≤ size → 0 + length (refusalText number place) ≤ size
+refusal-fits number place size h = omega (arith, refusal-short number place)
 
 -- the lines of n records
 pairs-short : (n : ℕ) (lefts rights : List ℕ) → length (pairLines (take n lefts) (take n rights)) ≤ 42 * n
@@ -54,6 +59,9 @@ names-short : (n : ℕ) (s : List ℕ) → ((i : ℕ) → getD s i 0 < 256) → 
 names-short n s bytes = omega (arith, line-spaced (map eventName (take n s)), names-spaced n s bytes)
 
 -- ---- what follows a first line fits, too
+
+pub first-alike : (n : ℕ) (lefts rights : List ℕ) → n ≤ length lefts → n ≤ length rights → length (take n lefts) ≡ length (take n rights)
+first-alike n lefts rights l r = length-take-le n lefts l ∙ sym (length-take-le n rights r)
 
 pub records-fit : (name : List ℕ) (a b : ℕ) {old : List ℕ} {place : ℕ} {mid : List ℕ} → Put old 0 (line (name ∷ decimal a ∷ decimal b ∷ [])) place mid → length name ≤ 31
     → (n : ℕ) (lefts rights : List ℕ) → longest n ≤ length old → place + length (pairLines (take n lefts) (take n rights)) ≤ length mid

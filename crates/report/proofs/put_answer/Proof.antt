@@ -1,6 +1,6 @@
 -- `report::put_answer` puts the answer's first line; after SAME the records, after DIFFERENT the sequence.
 use mathlib.Core.List.{List, [], _∷_}
-use mathlib.Core.Path.{sym, _∙_}
+use mathlib.Core.Path.{sym}
 use Prim.Native.Nat.{ℕ, _<_, _≤_}
 use native.Mathlib.Omega.{arith}
 use borrow.Author.Needs.{needs}
@@ -8,9 +8,8 @@ use lib.ListN.{length, take, getD}
 use lib.Seq.{length-take-le}
 use Rattle.text.specs.Text.{word, decimal, line}
 use Rattle.lent.proofs.Putting.{put-then, put-as}
-use Rattle.text.proofs.Lines.{head-short, refusal-short}
 use Rattle.report.specs.Report.{longest}
-use Rattle.report.proofs.Lengths.{two-fit, three-fit, records-fit, names-fit}
+use Rattle.report.proofs.Lengths.{two-fit, three-fit, refusal-fits, first-alike, records-fit, names-fit}
 use Rattle.report.proofs.Answered.{answer-same, answer-different, answer-full, answer-refused, printable-same, printable-different}
 use Rattle.report.proofs.put_answer.Statement.{statement}
 use Rattle.report.proofs.put_answer.Tie as tie
@@ -55,19 +54,21 @@ put-head-requires c κs = two-fit _ _ _ _ (omega (arith, same-start (same-counte
 slice-aggregate-put-records : tie.Need-slice-aggregate-put-records
 slice-aggregate-put-records c =
     let (in-lefts, in-rights, fits) = printable (same-counted (same-headed (c .before) .before)) in
-    sym (length-take-le _ _ in-lefts)
+    sym (length-take-le _ _ (omega (arith, in-lefts, in-rights)))
 
 slice-aggregate-put-records-2 : tie.Need-slice-aggregate-put-records-2
 slice-aggregate-put-records-2 c =
     let (in-lefts, in-rights, fits) = printable (same-counted (same-headed (c .before .before) .before)) in
-    sym (length-take-le _ _ in-rights)
+    sym (length-take-le _ _ (omega (arith, in-lefts, in-rights)))
 
 put-records-requires : tie.Need-put-records-requires
 put-records-requires c κs =
     let head = same-headed (c .before .before) in
     let arm = same-counted (head .before) in
-    let (in-lefts, in-rights, fits) = printable arm in
-    (length-take-le _ _ in-lefts ∙ sym (length-take-le _ _ in-rights), records-fit _ _ _ (head .put-head .ensures) (omega arith) _ _ _ fits)
+    let (in-lefts, in-rights, fits) = printable arm in (
+      omega (arith, first-alike (kept arm) (lefts arm) (rights arm) in-lefts in-rights),
+      records-fit _ _ _ (head .put-head .ensures) (omega arith) _ _ _ fits,
+    )
 
 -- ---- DIFFERENT
 
@@ -137,7 +138,7 @@ enum-known-answer-4 : tie.Need-enum-known-answer-4
 enum-known-answer-4 c = search needs
 
 put-refusal-requires : tie.Need-put-refusal-requires
-put-refusal-requires c κs = omega (arith, refusal-short (c .before .before .answer4 .given .0 .0) 0)
+put-refusal-requires c κs = refusal-fits _ _ _ (omega (arith, c .before .before .before .before .before .before .before .before .pre .text-fits))
 
 -- ---- what each arm has put
 

@@ -4,7 +4,7 @@ use Prim.Native.Nat.{ℕ}
 use native.Mathlib.Omega.{arith}
 use borrow.Author.Needs.{needs}
 use Rattle.numbers.specs.Numbers.{AreBytes}
-use Rattle.text.proofs.Lines.{refusal-short}
+use Rattle.report.proofs.Lengths.{refusal-fits}
 use Rattle.report.proofs.Reporting.{reported, told, refusal-printed, answer-printed, answer-printable}
 use Rattle.report.proofs.report.Statement.{statement}
 use Rattle.report.proofs.report.Tie as tie
@@ -47,8 +47,7 @@ enum-known-asked c = search needs
 
 put-refusal-requires : tie.Need-put-refusal-requires
 put-refusal-requires c κs =
-    let given = refusal c .asked .given in
-    omega (arith, refusal-short (given .0 .0) (given .0 .1 .0), start (asked (refusal c .before .before)) .pre .1)
+    refusal-fits _ _ _ (omega (arith, start (asked (refusal c .before .before)) .pre .1))
 
 enum-known-asked-2 : tie.Need-enum-known-asked-2
 enum-known-asked-2 c = search needs
