@@ -1,4 +1,5 @@
 -- From what the reader and the comparison ensure to what is answered: a file that was read is never refused by the comparison. Assumes nothing.
+use mathlib.Core.Logic.{_⊎_, inl, inr}
 use mathlib.Core.Path.{_≡_, sym, subst}
 use mathlib.Core.List.{List}
 use Prim.Native.Nat.{ℕ, _*_, _≤_}
@@ -13,6 +14,7 @@ use Rattle.patternfile.specs.Reader.{ReadDone, ReadRefused, Reads}
 use Rattle.patternfile.proofs.Contents.{accepted-valid}
 use Rattle.patternfile.proofs.RoundTrip.{left-rows}
 use Rattle.walk.specs.Walk.{Question, questionOf, keptOf, wordOf}
+use Rattle.walk.proofs.WalkEnds.{walk-ends}
 use Rattle.comparison.specs.declared.Answer.{Answer}
 use Rattle.comparison.specs.Answers.{numberOf, Lent, compareTest, answerOf, layOut, Compared}
 use Rattle.comparison.specs.Meaning.{Roomy, Honest}
@@ -21,7 +23,7 @@ use Rattle.comparison.proofs.CompareHonest.{compare-valid, compare-honest}
 use Rattle.asking.specs.declared.Asked.{Asked}
 use Rattle.asking.specs.Asking.{rowRoom, Asks, Refuses, callFor, Answers}
 use Rattle.asking.specs.Asking.Answers.{refuses, answers}
-use Rattle.asking.proofs.Questions.{asks-proper}
+use Rattle.asking.proofs.Questions.{asks-proper, asks-or-refuses}
 
 -- ---- the comparison of a question that was asked
 
@@ -42,6 +44,16 @@ pub answers-honest : {room : ℕ} {input rows : List ℕ} {lent : Lent} {answer 
 answers-honest {room} {lent = lent} are roomy (answers {Q} {o} a w) =
     let compared : Compared (callFor Q room lent) (answerOf o) (layOut (keptOf o) (wordOf o) lent) = Compared.walks (never-refused are a roomy) w in
     (Q, a, compare-valid (asks-proper are a, roomy) compared, compare-honest compared)
+
+-- ---- every input has its answer
+
+pub always-answered : (room : ℕ) (input rows : List ℕ) (lent : Lent) → AreBytes input → (a : Asked) × (rows′ : List ℕ) × (l : Lent) × Answers room input rows lent a rows′ l
+always-answered room input rows lent are = pick (asks-or-refuses input are)
+  where
+    pick : ((Q : Question) × Asks input Q) ⊎ ((number : ℕ) × (place : ℕ) × Refuses input number place)
+        → (a : Asked) × (rows′ : List ℕ) × (l : Lent) × Answers room input rows lent a rows′ l
+    pick (inl (Q, a)) = let (o, w) = walk-ends Q (asks-proper are a) room in (_, _, _, answers a w)
+    pick (inr (number, place, r)) = (_, _, _, refuses r)
 
 -- ---- a file that was refused
 

@@ -4,9 +4,12 @@
 --   Refuses input w place   reading them gives the refusal w at a place; every input asks or is refused (`asks-or-refuses`), and none does both
 --   Answers room input rows lent asked rows′ lent′
 --                           what is answered in a room, and what the rows, the records and the sequence then are: nothing is left open
---                           (`answers-determined`), the answer depends on the bytes and the room alone (`one-answer`), it means what the comparison's
---                           does (`answers-honest`), and no byte from 20,513 on changes it (`cap-answers-the-same`)
---   Suffices room rows lent the row buffer, and a room that is allowed and lent: the comparison then refuses no file that was read (`never-refused`)
+--                           (`answers-determined`), every input has an answer (`always-answered`), which the bytes and the room alone say
+--                           (`one-answer`), which means what the comparison's does (`answers-honest`), and which no byte from 20,513 on changes
+--                           (`cap-answers-the-same`)
+--   Suffices room rows lent
+--                           the row buffer, and a room that is allowed and lent: the comparison then refuses no file that was read (`never-refused`)
+--   callFor Q room lent     the comparison of a question
 --   Lends, AnswersFile      what is lent when the call begins; what is answered and left, of the slices lent
 use mathlib.Core.Path.{_≡_}
 use mathlib.Core.List.{List}
