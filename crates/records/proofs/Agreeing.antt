@@ -56,7 +56,7 @@ map-drop f zero rs = refl
 map-drop f (suc n) [] = refl
 map-drop f (suc n) (r ∷ rs) = map-drop f n rs
 
-map-written : (x : Field) (kept : List Record) → map (valueIn x) (map written kept) ≡ map (value x) kept
+pub map-written : (x : Field) (kept : List Record) → map (valueIn x) (map written kept) ≡ map (value x) kept
 map-written x [] = refl
 map-written x (k ∷ kept) = ap (λ (t : List ℕ). value x k ∷ t) (map-written x kept)
 
