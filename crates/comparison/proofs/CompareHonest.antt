@@ -18,7 +18,7 @@ use Rattle.walk.proofs.SameMeansSame.{same-means-same}
 use Rattle.walk.proofs.DifferentMeansDifferent.{different-means-different}
 use Rattle.walk.proofs.Counts.{counts}
 use Rattle.walk.proofs.FullExactly.{full-exactly}
-use Rattle.comparison.specs.Answers.{numberOf, valuesOf, Lent, Call, compareTest, answerOf, layOut, Compared}
+use Rattle.comparison.specs.Answers.{numberOf, Lent, Call, compareTest, answerOf, layOut, Compared}
 use Rattle.comparison.specs.Answers.Compared.{refuses, walks}
 use Rattle.comparison.specs.Meaning.{IsRefused, Comparable, compareLines, Honest, Quiet}
 use Rattle.comparison.specs.declared.Answer.{Answer}
@@ -133,6 +133,11 @@ compare-honest {c} (walks {o} f w) = honest c f o w
 pub compare-quiet : {c : Call} {a : Answer} {later : Lent} → Compared c a later → IsRefused a → Quiet c a later
 compare-quiet {c} (refuses e) r = record { reason = e; kept = refl; examined = refl; length = refl; unchanged = refl }
 compare-quiet {c} (walks {o} f w) r = absurd (not-refused o r)
+
+-- an answer that is no refusal is one to a call that is not refused
+pub compare-answered : {c : Call} {a : Answer} {later : Lent} → Compared c a later → (IsRefused a → ⊥) → Comparable c
+compare-answered (refuses e) f = absurd (f tt)
+compare-answered {c} (walks g w) f = compare-fine c .0 g
 
 -- every call has a result
 pub compare-answers : (c : Call) → (a : Answer) × (later : Lent) × Compared c a later

@@ -4,10 +4,11 @@ use mathlib.Core.List.{List, [], _∷_, _++_}
 use Prim.Native.Nat.{ℕ, zero, suc, _+_, _≤_, _<_}
 use native.Mathlib.Nat.{mod-lt}
 use native.Mathlib.Omega.{arith}
-use lib.ListN.{length, getD, take, length-append}
+use lib.ListN.{length, take, length-append}
 use lib.Seq.{getD-take, length-take-le}
 use Rattle.lent.specs.Lent.{lay}
 use Rattle.sets.specs.Sets.{meets}
+use Rattle.sets.specs.Rooms.{maxRoom}
 use Rattle.pattern.specs.Language.{reach, accepts}
 use Rattle.congruence.specs.Congruence.{Congruent, Listed}
 use Rattle.walk.specs.Walk.{Question, Record, leftsOf, rightsOf, parentsOf, lettersOf, candidate, candidates, upcoming, Implied, Agrees, Moves, Path, Word}
@@ -65,9 +66,6 @@ module _ {c : Call} {n e : ℕ} (here : Facing c n e) where
 
   abbrev pub Alike : Type 0
   Alike = meets (here .made .left) (c .question .pattern .finals) ≡ meets (here .made .right) (c .question .pattern .finals)
-
-  K : List Record
-  K = recordsOf (c .lent .columns) n
 
   fit : Fit n (c .lent .columns)
   fit = fit-less (here .ready .within) (here .ready .roomy .columns-fit)
@@ -128,10 +126,10 @@ module _ {c : Call} {n e : ℕ} (here : Facing c n e) where
   later-parent f =
       omega (arith, ap (λ (r : Record). r .parent) (here .is), candidate-parent (c .question) (recordsOf (c .lent .columns) n) e pos (here .ready .remains) f, length-records (c .lent .columns) n)
 
-  pub parent-small : here .made .parent ≤ 1024
+  pub parent-small : here .made .parent ≤ maxRoom
   parent-small = at e refl
     where
-      at : (d : ℕ) → e ≡ d → here .made .parent ≤ 1024
+      at : (d : ℕ) → e ≡ d → here .made .parent ≤ maxRoom
       at zero z = omega (arith, ap (λ (r : Record). r .parent) (here .is), candidate-first (c .question) (recordsOf (c .lent .columns) n) e z)
       at (suc d) z = omega (arith, later-parent (λ y. omega arith), here .ready .within, here .ready .roomy .most)
 

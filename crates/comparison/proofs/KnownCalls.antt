@@ -1,11 +1,11 @@
 -- `known-calls`: the starred rows of the scope (§11), as a call gives them: answer, values and memory. Assumes nothing.
 use mathlib.Core.Path.{_≡_, refl}
-use mathlib.Core.List.{List, [], _∷_, map}
+use mathlib.Core.List.{List, [], _∷_}
 use Prim.Native.Nat.{ℕ}
 use Rattle.verdict.specs.declared.Verdict.{Verdict}
 use Rattle.verdict.specs.declared.Verdict.the-variants.{Fine}
 use Rattle.verdict.specs.Tests.{need, inOrder, each}
-use Rattle.verdict.proofs.Ordered.{apart, order-fine}
+use Rattle.verdict.proofs.Ordered.{order-fine}
 use Rattle.pattern.specs.Tests.{sizeTest, tableTest, setTest, shapeTest, masksTest, patternTest}
 use Rattle.pattern.proofs.Validity.{set-fine, pattern-valid}
 use Rattle.walk.specs.Walk.{Question, Outcome, Walk}
@@ -14,10 +14,8 @@ use Rattle.walk.specs.Known.{Row, table, Known}
 use Rattle.walk.specs.Known.Row.{asks, closes}
 use Rattle.walk.specs.Known.Known.{done, row}
 use Rattle.walk.proofs.KnownAnswers.{known-answers}
-use Rattle.comparison.specs.Answers.{Call, Lent}
 use Rattle.comparison.specs.Answers.Compared.{walks}
-use Rattle.comparison.specs.Meaning.{Gives}
-use Rattle.comparison.specs.Known.{KnownCalls}
+use Rattle.comparison.specs.Known.{Gives, KnownCalls}
 use Rattle.comparison.specs.Known.KnownCalls.{none, answers, passes}
 use Rattle.comparison.proofs.Asking.{compare-fine}
 use Rattle.comparison.proofs.CompareDetermined.{compare-determined}

@@ -9,6 +9,7 @@ use lib.ListN.{length, getD, length-append}
 use lib.Seq.{getD-take}
 use Rattle.lent.specs.Lent.{lay}
 use Rattle.verdict.specs.declared.Verdict.the-variants.{Fine}
+use Rattle.sets.specs.Rooms.{maxRoom}
 use Rattle.walk.specs.Walk.{Record, begin, upcoming, Remains, keep, Moves, Moved}
 use Rattle.walk.specs.Walk.Outcome.{Same, Different, Full}
 use Rattle.walk.specs.Walk.Ends.{same}
@@ -87,8 +88,8 @@ module _ {c : Call} {l : Lent} {n e : ℕ} (w : Walking c l n e) where
       }
 
   -- the counts are small, and what is examined is no more than the room allows
-  pub count-small : c .question .pattern .letters * n ≤ 32 * 1024
-  count-small = let h : n ≤ 1024 = omega (arith, within, asked .1 .most) in mul-le-mul (asked .0 .valid .sized .letters-fit) h
+  pub count-small : c .question .pattern .letters * n ≤ 32 * maxRoom
+  count-small = let h : n ≤ maxRoom = omega (arith, within, asked .1 .most) in mul-le-mul (asked .0 .valid .sized .letters-fit) h
 
   pub count-within : c .question .pattern .letters * n ≤ c .question .pattern .letters * c .room
   count-within = mul-le-mul-left (c .question .pattern .letters) within

@@ -12,7 +12,7 @@ use Prim.Native.Nat.{ℕ, zero, suc, _+_, _*_, _≤_, _<_}
 use lib.ListN.{length, getD}
 use denote.Ref.{RefT, now}
 use Rattle.verdict.specs.declared.Verdict.{Verdict}
-use Rattle.lent.specs.Lent.{Slice, before, lay}
+use Rattle.lent.specs.Lent.{Slice, before, after, lay}
 use Rattle.pattern.specs.Pattern.{Valid}
 use Rattle.walk.specs.Walk.{questionOf, Record, leftsOf, rightsOf, candidate, Position, upcoming, Remains, skip, keep, Moves, Path, Ends}
 use Rattle.walk.specs.Walk.Outcome.{Different, Full}
@@ -36,6 +36,9 @@ pub record Spellable (parents taken : List ℕ) (from : ℕ) (sequence : List �
 -- the path and the letter `last` stand first in the sequence bytes, and r is how many they are
 pub record Spelt (parents taken : List ℕ) (from last : ℕ) (old new : List ℕ) (r : ℕ) : Type 0 where
   pub all : (w : List ℕ) → Path parents taken from w → (r ≡ length w + 1) × (new ≡ lay (w ++ (last ∷ [])) old)
+
+abbrev pub Spells : Slice → Slice → ℕ → ℕ → Slice → ℕ → Type 0
+Spells parents taken from last sequence r = Spelt (before parents) (before taken) from last (before sequence) (after sequence) r
 
 abbrev pub recordOf : Candidate → Record
 recordOf r = record { left = r .left; right = r .right; parent = r .parent; letter = r .letter }

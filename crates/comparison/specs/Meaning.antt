@@ -7,7 +7,6 @@
 --   Quiet          what a refusal leaves: every number 0, all that is lent as it was
 --   SameWritten    two calls wrote the same records and the same sequence
 --   LessRoom       what a call in a smaller room answers and leaves, by what the larger one does
---   Gives          what every call with a question in a room answers, and leaves
 use mathlib.Core.Path.{_≡_}
 use mathlib.Core.Logic.{_↔_}
 use Prim.Native.Nat.{ℕ, suc, _+_, _*_, _≤_, _<_}
@@ -19,10 +18,10 @@ use Rattle.sets.specs.Sets.{Good}
 use Rattle.sets.specs.Rooms.{maxRoom}
 use Rattle.pattern.specs.Refusals.{MasksGood, shapeLines}
 use Rattle.pattern.specs.Language.{SameLanguage}
-use Rattle.walk.specs.Walk.{Question, Outcome, keptOf, wordOf}
+use Rattle.walk.specs.Walk.{Question}
 use Rattle.walk.specs.Columns.{firsts, Fit}
 use Rattle.walk.specs.Meaning.{Proper, Outgrows, Tells, numberKept}
-use Rattle.comparison.specs.Answers.{numberOf, valuesOf, Lent, Call, compareTest, answerOf, layOut, Compared}
+use Rattle.comparison.specs.Answers.{numberOf, valuesOf, Lent, Call, compareTest}
 use Rattle.comparison.specs.declared.Answer.{Answer}
 
 abbrev pub IsRefused : Answer → Type 0
@@ -84,8 +83,3 @@ pub record SameWritten (kept length : ℕ) (l m : Lent) : Type 0 where
 pub record LessRoom (letters room : ℕ) (b : Answer) (m : Lent) (a : Answer) (l : Lent) : Type 0 where
   pub same : valuesOf b .kept ≤ room → (a ≡ b) × SameWritten (valuesOf b .kept) (valuesOf b .length) l m
   pub full : room < valuesOf b .kept → (a ≡ Answer.Full room (suc (numberKept letters (m .columns) room))) × SameWritten room 0 l m
-
--- answer, values and memory, whatever is lent for the room
-pub record Gives (Q : Question) (room : ℕ) (o : Outcome) : Type 0 where
-  pub all : (lent : Lent) → Roomy room lent → (a : Answer) (later : Lent) → Compared (record { question = Q; room = room; lent = lent }) a later
-      → (a ≡ answerOf o) × (later ≡ layOut (keptOf o) (wordOf o) lent)

@@ -5,7 +5,7 @@ ghost use Rattle.verdict.specs.Tests.{need, each};
 ghost use Rattle.verdict.specs.declared.Verdict.the-variants.{Fine};
 ghost use Rattle.sets.specs.Rooms.{defaultRoom};
 ghost use Rattle.comparison.specs.Answers.{compareTest, Compares};
-ghost use Rattle.comparison.specs.Inner.{Tests, Spellable, Spelt, Proposable, Proposes, Ready, callNow, Deals};
+ghost use Rattle.comparison.specs.Inner.{Tests, Spellable, Spells, Proposable, Proposes, Ready, callNow, Deals};
 use sets::States;
 use verdict::Verdict;
 
@@ -129,7 +129,7 @@ fn wide(x: u16) -> usize
 // The way up is gone twice, to count the letters and then to write them from the end: no second buffer.
 fn spell(parents: &[u16], taken: &[u8], from: usize, last: u8, sequence: &mut [u8]) -> usize
     requires { ⌜ Spellable (now parents) (now taken) from (now sequence) ⌝ }
-    ensures { λ r. ⌜ Spelt (now (parents .entry)) (now (taken .entry)) from last (now (sequence .entry)) (now (sequence .exit)) r ⌝ }
+    ensures { λ r. ⌜ Spells parents taken from last sequence r ⌝ }
 {
     let mut count = 0;
     let mut i = from;

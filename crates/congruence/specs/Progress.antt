@@ -2,7 +2,7 @@
 --   Progresses P R a b   a and b agree on the empty sequence, and each letter takes them to sets that are congruent by R
 --   Progress P R         each pair of R progresses: congruent sets have one language then (`up-to-congruence`)
 use mathlib.Core.Path.{_≡_}
-use mathlib.Core.List.{List, []}
+use mathlib.Core.List.{[]}
 use Prim.Native.Nat.{ℕ, _<_}
 use Rattle.pattern.specs.Pattern.{Pattern}
 use Rattle.pattern.specs.Language.{next, accepts}

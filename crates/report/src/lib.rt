@@ -3,15 +3,15 @@ ghost use mathlib.Core.List.{_∷_, [], _++_, map};
 ghost use mathlib.Core.Path.{_≡_};
 ghost use Prim.Native.Nat.{_+_, _≤_};
 ghost use lib.ListN.{length};
-ghost use Rattle.lent.specs.Lent.{Put};
+ghost use Rattle.lent.specs.Lent.{before, Puts};
 ghost use Rattle.text.specs.Text.{word, decimal, spaced, line};
 ghost use Rattle.events.specs.Events.{eventName};
-ghost use Rattle.comparison.specs.Answers.{lentOf};
-ghost use Rattle.report.specs.Report.{longest, Lends, Leaves, Reports};
-ghost use Rattle.report.specs.Inner.{pairLines, answerText, Small};
+ghost use Rattle.asking.specs.Asking.{Lends};
+ghost use Rattle.report.specs.Report.{longest, Reports, Leaves};
+ghost use Rattle.report.specs.Inner.{pairLines, answerText, Printable};
+use asking::Asked;
 use comparison::Answer;
 use events::put_name;
-use patternfile::PatternRead;
 use text::put_byte;
 use text::put_decimal;
 use text::put_head;
@@ -20,7 +20,7 @@ use text::put_refusal;
 
 fn put_record(out: &mut [u8], at: usize, left: u64, right: u64) -> usize
     requires { ⌜ at + length (line (decimal left ∷ decimal right ∷ [])) ≤ length (now out) ⌝ }
-    ensures { λ r. ⌜ Put (now (out .entry)) at (line (decimal left ∷ decimal right ∷ [])) r (now (out .exit)) ⌝ }
+    ensures { λ r. ⌜ Puts out at (line (decimal left ∷ decimal right ∷ [])) r ⌝ }
 {
     let first = put_decimal(out, at, left);
     let second = put_number(out, first, right);
@@ -31,7 +31,7 @@ fn put_record(out: &mut [u8], at: usize, left: u64, right: u64) -> usize
 fn put_records(out: &mut [u8], at: usize, lefts: &[u64], rights: &[u64]) -> usize
     requires { ⌜ length (now lefts) ≡ length (now rights) ⌝ }
     requires { ⌜ at + length (pairLines (now lefts) (now rights)) ≤ length (now out) ⌝ }
-    ensures { λ r. ⌜ Put (now (out .entry)) at (pairLines (now (lefts .entry)) (now (rights .entry))) r (now (out .exit)) ⌝ }
+    ensures { λ r. ⌜ Puts out at (pairLines (before lefts) (before rights)) r ⌝ }
 {
     let mut place = at;
     let mut record: usize = 0;
@@ -45,7 +45,7 @@ fn put_records(out: &mut [u8], at: usize, lefts: &[u64], rights: &[u64]) -> usiz
 // A name with a space in front, as the later ones of a line have it.
 fn put_event(out: &mut [u8], at: usize, letter: u8) -> usize
     requires { ⌜ at + length (word " " ++ eventName letter) ≤ length (now out) ⌝ }
-    ensures { λ r. ⌜ Put (now (out .entry)) at (word " " ++ eventName letter) r (now (out .exit)) ⌝ }
+    ensures { λ r. ⌜ Puts out at (word " " ++ eventName letter) r ⌝ }
 {
     let place = put_byte(out, at, b' ');
     put_name(out, place, letter)
@@ -54,7 +54,7 @@ fn put_event(out: &mut [u8], at: usize, letter: u8) -> usize
 // Names, each with a space in front.
 fn put_events(out: &mut [u8], at: usize, letters: &[u8]) -> usize
     requires { ⌜ at + length (spaced (map eventName (now letters))) ≤ length (now out) ⌝ }
-    ensures { λ r. ⌜ Put (now (out .entry)) at (spaced (map eventName (now (letters .entry)))) r (now (out .exit)) ⌝ }
+    ensures { λ r. ⌜ Puts out at (spaced (map eventName (before letters))) r ⌝ }
 {
     let mut place = at;
     let mut i: usize = 0;
@@ -68,7 +68,7 @@ fn put_events(out: &mut [u8], at: usize, letters: &[u8]) -> usize
 // One line of event names; an empty line for the empty sequence.
 fn put_sequence(out: &mut [u8], at: usize, sequence: &[u8]) -> usize
     requires { ⌜ at + length (line (map eventName (now sequence))) ≤ length (now out) ⌝ }
-    ensures { λ r. ⌜ Put (now (out .entry)) at (line (map eventName (now (sequence .entry)))) r (now (out .exit)) ⌝ }
+    ensures { λ r. ⌜ Puts out at (line (map eventName (before sequence))) r ⌝ }
 {
     if sequence.len() == 0 {
         return put_byte(out, at, b'\n');
@@ -86,12 +86,8 @@ fn put_answer(
     rights: &[u64],
     sequence: &[u8],
 ) -> usize
-    requires { ⌜ longest ≤ length (now out) ⌝ }
-    requires { ⌜ Small answer ⌝ }
-    requires { ⌜ 1024 ≤ length (now lefts) ⌝ }
-    requires { ⌜ 1024 ≤ length (now rights) ⌝ }
-    requires { ⌜ 1024 ≤ length (now sequence) ⌝ }
-    ensures { λ r. ⌜ Put (now (out .entry)) 0 (answerText answer (now (lefts .entry)) (now (rights .entry)) (now (sequence .entry))) r (now (out .exit)) ⌝ }
+    requires { ⌜ Printable answer (now lefts) (now rights) (now sequence) (now out) ⌝ }
+    ensures { λ r. ⌜ Puts out 0 (answerText answer (before lefts) (before rights) (before sequence)) r ⌝ }
 {
     match answer {
         Answer::Same(kept, examined) => {
@@ -112,9 +108,10 @@ fn put_answer(
     }
 }
 
-// What `compare` prints for the bytes that it took in: reads the file, compares, and puts the text.
+// What `compare` prints for the bytes that it took in: asks their question in a room, and puts the text.
 pub fn report(
     bytes: &[u8],
+    room: usize,
     rows: &mut [u64],
     lefts: &mut [u64],
     rights: &mut [u64],
@@ -123,35 +120,14 @@ pub fn report(
     sequence: &mut [u8],
     out: &mut [u8],
 ) -> usize
-    requires { ⌜ Lends (now rows) (lentOf (now lefts) (now rights) (now parents) (now taken) (now sequence)) (now out) ⌝ }
-    ensures { λ r. ⌜ Reports (now (bytes .entry)) (now (out .entry)) r (now (out .exit)) ⌝ }
-    ensures { λ _. ⌜ Leaves (now (bytes .entry)) (now (rows .entry)) (lentOf (now (lefts .entry)) (now (rights .entry)) (now (parents .entry)) (now (taken .entry)) (now (sequence .entry))) (now (rows .exit)) (lentOf (now (lefts .exit)) (now (rights .exit)) (now (parents .exit)) (now (taken .exit)) (now (sequence .exit))) ⌝ }
+    requires { ⌜ Lends room rows lefts rights parents taken sequence ⌝ }
+    requires { ⌜ longest room ≤ length (now out) ⌝ }
+    ensures { λ r. ⌜ Reports bytes room out r ⌝ }
+    ensures { λ _. ⌜ Leaves bytes room rows lefts rights parents taken sequence ⌝ }
 {
-    let file = patternfile::read(bytes, rows);
-    match file {
-        PatternRead::Refused(number, place) => put_refusal(out, 0, number, place),
-        PatternRead::Done {
-            states,
-            letters,
-            finals,
-            x,
-            y,
-        } => {
-            let count = states * letters;
-            let answer = comparison::compare_default(
-                states,
-                letters,
-                finals,
-                &rows[..count],
-                x,
-                y,
-                lefts,
-                rights,
-                parents,
-                taken,
-                sequence,
-            );
-            put_answer(out, answer, lefts, rights, sequence)
-        }
+    let asked = asking::ask(bytes, room, rows, lefts, rights, parents, taken, sequence);
+    match asked {
+        Asked::Refused(number, place) => put_refusal(out, 0, number, place),
+        Asked::Answered(answer) => put_answer(out, answer, lefts, rights, sequence),
     }
 }

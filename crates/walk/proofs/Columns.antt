@@ -8,7 +8,7 @@ use native.Mathlib.Omega.{arith}
 use lib.ListN.{length, getD, length-map, List·getD-append}
 use lib.Seq.{getD-at}
 use Rattle.walk.specs.Walk.{Record}
-use Rattle.walk.specs.Columns.{Field, value, recordBy, Columns, column, columnsBy, each, lengths, Fit}
+use Rattle.walk.specs.Columns.{Field, value, recordBy, Columns, column, columnsBy, eachColumn, lengths, Fit}
 
 -- ---- by its fields
 
@@ -24,7 +24,7 @@ column-by f Field.right = refl
 column-by f Field.parent = refl
 column-by f Field.letter = refl
 
-pub column-each : (f : Field → List ℕ → List ℕ) (c : Columns) (x : Field) → column x (each f c) ≡ f x (column x c)
+pub column-each : (f : Field → List ℕ → List ℕ) (c : Columns) (x : Field) → column x (eachColumn f c) ≡ f x (column x c)
 column-each f c x = column-by (λ (y : Field). f y (column y c)) x
 
 pub record-path : (f g : Field → ℕ) → ((x : Field) → f x ≡ g x) → recordBy f ≡ recordBy g

@@ -1,7 +1,7 @@
 -- A walk that computes: what it gives is the outcome of the walk. Assumes nothing.
-use mathlib.Core.Path.{_≡_, refl, sym}
+use mathlib.Core.Path.{_≡_, refl}
 use mathlib.Core.Logic.{_↔_}
-use mathlib.Core.Bool.{Bool, true, false, Bool·beq, true≢false}
+use mathlib.Core.Bool.{Bool, true, false, Bool·beq}
 use mathlib.Core.List.{List, [], _∷_, _++_}
 use mathlib.Core.Option.{Option}
 use mathlib.Core.Option.Option.{some}
@@ -13,6 +13,7 @@ use borrow.Author.Tests.{eqb-true, eqb-false, ltb-true, ltb-false}
 use Rattle.pattern.specs.Language.{accepts}
 use Rattle.congruence.proofs.Deciding.{closing-decides}
 use Rattle.congruence.proofs.Computed.{closing, closing-closes}
+use Rattle.verdict.proofs.Flags.{flags-yes, flags-no}
 use Rattle.walk.specs.Walk.{Question, Record, leftsOf, rightsOf, parentsOf, lettersOf, candidate, candidates, Position, upcoming, Remains, Implied, Agrees, Moves, Path, Word, Outcome, Ends, Moved, Walk}
 use Rattle.walk.specs.Walk.Moves.{skipped}
 use Rattle.walk.specs.Walk.Path.{start, further}
@@ -77,18 +78,6 @@ picked true true agree roomy t = (t .left-yes refl, t .equal-yes refl)
 picked true false false roomy t = (t .left-yes refl, t .equal-no refl, t .agree-no refl)
 picked true false true true t = (t .left-yes refl, t .equal-no refl, t .agree-yes refl, t .roomy-yes refl)
 picked true false true false t = (t .left-yes refl, t .equal-no refl, t .agree-yes refl, t .roomy-no refl)
-
-flags-yes : (a b : Bool) → Bool·beq a b ≡ true → a ≡ b
-flags-yes true true e = refl
-flags-yes true false e = sym e
-flags-yes false true e = e
-flags-yes false false e = refl
-
-flags-no : (a b : Bool) → Bool·beq a b ≡ false → a ≡ b → ⊥
-flags-no true true e z = true≢false e
-flags-no true false e z = true≢false z
-flags-no false true e z = true≢false (sym z)
-flags-no false false e z = true≢false e
 
 justified : (Q : Question) (room : ℕ) (kept : List Record) (e : ℕ) → Justified Q room (at kept e) (next-of Q room kept e)
 unfolding next-of

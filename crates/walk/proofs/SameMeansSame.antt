@@ -9,7 +9,7 @@ use Rattle.pattern.specs.Pattern.{Sized}
 use Rattle.pattern.specs.Language.{SameLanguage}
 use Rattle.pattern.proofs.Steps.{row-below}
 use Rattle.congruence.specs.Congruence.{Congruent, Listed}
-use Rattle.congruence.specs.Progress.{Progress, Progresses}
+use Rattle.congruence.specs.Progress.{Progress}
 use Rattle.congruence.proofs.UpTo.{up-to-congruence}
 use Rattle.walk.specs.Walk.{Question, Record, leftsOf, rightsOf, candidate, Position, Remains, Implied, Ends, Walk}
 use Rattle.walk.specs.Walk.Outcome.{Same}

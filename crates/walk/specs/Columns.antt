@@ -2,7 +2,7 @@
 --   Field, value          a field of a record, and what a record has there
 --   Columns, column       the columns together, and the column of a field
 --   columnsBy, recordBy   columns from a list for each field, and a record from a number for each field
---   each                  every column changed, by its field
+--   eachColumn            every column changed, by its field
 --   columnsOf, recordAt   the columns of a list of records, and the record that stands at a place of columns
 --   layColumns            records laid over the first places, the rest as it was; store: one record at a place
 --   firsts                the first places of every column
@@ -47,8 +47,8 @@ column Field.letter = λ (c : Columns). c .taken
 abbrev pub columnsBy : (Field → List ℕ) → Columns
 columnsBy f = record { lefts = f Field.left; rights = f Field.right; parents = f Field.parent; taken = f Field.letter }
 
-abbrev pub each : (Field → List ℕ → List ℕ) → Columns → Columns
-each f c = columnsBy (λ (x : Field). f x (column x c))
+abbrev pub eachColumn : (Field → List ℕ → List ℕ) → Columns → Columns
+eachColumn f c = columnsBy (λ (x : Field). f x (column x c))
 
 abbrev pub columnsOf : List Record → Columns
 columnsOf kept = columnsBy (λ (x : Field). map (value x) kept)
@@ -57,13 +57,13 @@ abbrev pub recordAt : Columns → ℕ → Record
 recordAt c i = recordBy (λ (x : Field). getD (column x c) i 0)
 
 abbrev pub layColumns : List Record → Columns → Columns
-layColumns kept = each (λ (x : Field) (old : List ℕ). lay (map (value x) kept) old)
+layColumns kept = eachColumn (λ (x : Field) (old : List ℕ). lay (map (value x) kept) old)
 
 abbrev pub store : ℕ → Record → Columns → Columns
-store n r = each (λ (x : Field) (old : List ℕ). set old n (value x r))
+store n r = eachColumn (λ (x : Field) (old : List ℕ). set old n (value x r))
 
 abbrev pub firsts : ℕ → Columns → Columns
-firsts n = each (λ (x : Field) (old : List ℕ). take n old)
+firsts n = eachColumn (λ (x : Field) (old : List ℕ). take n old)
 
 abbrev pub lengths : Columns → List ℕ
 lengths c = map (λ (x : Field). length (column x c)) fields
