@@ -1,2 +1,3 @@
--- Laws that belong to no one function: every export is determined.
+-- Laws that belong to no one function: what a host is promised, and that every export is determined.
+pub mod Promises
 pub mod Determined

@@ -3,7 +3,7 @@ use mathlib.Core.Path.{_≡_}
 use mathlib.Core.List.{List}
 use Prim.Native.Nat.{ℕ}
 use Rattle.lent.specs.Lent.{Slice, before, after}
-use Rattle.pattern.specs.Pattern.{Pattern, patternOf}
+use Rattle.pattern.specs.Pattern.{Pattern, patternIn}
 use Rattle.patternfile.specs.Reader as Reader
 use Rattle.patternfile.specs.Reader.{Reads}
 use Rattle.patternfile.specs.Writer as Writer
@@ -46,4 +46,4 @@ abbrev pub ReadsPattern : Slice → Slice → PbPattern → Type 0
 ReadsPattern bytes rows r = ReadPattern (before bytes) (before rows) r (after rows)
 
 abbrev pub WritesPattern : ℕ → ℕ → ℕ → Slice → ℕ → ℕ → Slice → PbWritten → Type 0
-WritesPattern states letters finals rows x y bytes r = WrittenPattern (patternOf states letters finals (before rows)) x y (before bytes) r (after bytes)
+WritesPattern states letters finals rows x y bytes r = WrittenPattern (patternIn states letters finals rows) x y (before bytes) r (after bytes)

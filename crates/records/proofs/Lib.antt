@@ -2,3 +2,4 @@
 pub mod Finding
 pub mod Agreeing
 pub mod Gathering
+pub mod Offering
