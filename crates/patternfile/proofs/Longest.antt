@@ -24,6 +24,7 @@ use Rattle.numbers.proofs.Parts.{FitsMany, fits-many, encode-append}
 use Rattle.numbers.proofs.Reach.{Short, short-more, short-many, item-reach, reach}
 use Rattle.patternfile.specs.PatternFile.{numbersOf, fileBytes, startsThen, setsThen, afterLetters, patternThen, patternFormat}
 use Rattle.patternfile.specs.Reader.{FileOf}
+use Rattle.patternfile.proofs.Contents.{contents-fit}
 use Rattle.patternfile.proofs.RoundTrip.{file-of}
 
 -- ---- no file is longer
@@ -64,6 +65,11 @@ fits-short room [] h = absurd h
 fits-short room (n ∷ []) h = absurd (h .2)
 fits-short room (n ∷ k ∷ []) h = absurd (h .2 .2 .1)
 fits-short room (n ∷ k ∷ f ∷ us) h = at-most n k f us (h .1) (h .2 .1) (h .2 .2 .1 .2)
+
+-- neither the file of a valid pattern with two sets of its states, nor anything that is read as a file
+pub file-short : (P : Pattern) (x y : ℕ) → Valid P → Good (P .states) x → Good (P .states) y → length (fileBytes P x y) ≤ 20512
+unfolding fileBytes
+file-short P x y v gx gy = let n = P .states * P .letters in fits-short n (numbersOf P x y) (contents-fit n P x y v gx gy (omega arith))
 
 pub no-longer : {room : ℕ} {s : List ℕ} {P : Pattern} {x y : ℕ} → AreBytes s → FileOf room s P x y → length s ≤ 20512
 no-longer {room} {s} {P} {x} {y} are f =

@@ -6,6 +6,7 @@ use mathlib.Core.Bool.{Bool, true, false}
 use mathlib.Core.List.{List, [], _∷_, map, List·Memᴰ}
 use mathlib.Core.List.List·Memᴰ.{List·Memᴰ·head, List·Memᴰ·tail}
 use Prim.Native.Nat.{ℕ, zero, suc, _+_, _*_, _≤_, _<_}
+use native.Mathlib.Nat.{mul-le-mul}
 use native.Mathlib.Omega.{arith}
 use lib.ListN.{length, take, drop, length-map}
 use Rattle.verdict.specs.declared.Verdict.the-variants.{Fine, Against}
@@ -14,8 +15,9 @@ use Rattle.verdict.specs.Lines.{Applies}
 use Rattle.verdict.proofs.Numbered.{allFrom, among-need, among-from}
 use Rattle.lent.specs.Lent.{lay}
 use Rattle.lent.proofs.Laying.{take-lay, drop-lay}
+use Rattle.sets.specs.Sets.{Good}
 use Rattle.sets.specs.Rooms.{maxRoom}
-use Rattle.pattern.specs.Pattern.{Pattern, patternOf}
+use Rattle.pattern.specs.Pattern.{Pattern, patternOf, Valid}
 use Rattle.pattern.specs.Judge as Judge
 use Rattle.pattern.specs.Judge.{judged, Judgeable}
 use Rattle.pattern.specs.declared.Judged.{Judged}
@@ -44,6 +46,7 @@ use Rattle.evidence.specs.declared.Answer as Evidence′
 use Rattle.evidence.proofs.CheckHonest.{check-honest, valid-answered}
 use Rattle.evidence.proofs.Refusing.{check-lines, check-among}
 use Rattle.numbers.specs.Numbers.{AreBytes}
+use Rattle.patternfile.specs.PatternFile.{fileBytes}
 use Rattle.patternfile.specs.Reader as Reader
 use Rattle.patternfile.specs.Reader.{Reads}
 use Rattle.patternfile.specs.Writer as Writer
@@ -52,6 +55,7 @@ use Rattle.patternfile.specs.Meaning.{Readable}
 use Rattle.patternfile.specs.declared.PatternRead.{PatternRead}
 use Rattle.patternfile.specs.declared.Written.{Written}
 use Rattle.patternfile.proofs.Returned.{read-number, read-honest, write-number, write-honest}
+use Rattle.patternfile.proofs.Longest.{file-short}
 use Rattle.patternfile.proofs.RoundTrip.{read-after-write, write-after-read}
 use Rattle.records.specs.declared.PbRecord.{PbRecord}
 use Rattle.records.specs.declared.answers.PbCompared.{PbCompared}
@@ -66,7 +70,7 @@ use Rattle.pressbadger.specs.declared.files.PbWritten.{PbWritten}
 use Rattle.pressbadger.specs.Checks.{offerFor}
 use Rattle.pressbadger.specs.Judges.{judgeAnswer}
 use Rattle.pressbadger.specs.Files.{patternAnswer, ReadPattern, writtenAnswer, WrittenPattern}
-use Rattle.pressbadger.specs.Promises.{SAME, DIFFERENT, FULL, PROVED, DONE, OneOf, compareRefusals, checkRefusals, judgeRefusals, readRefusals, writeRefusals, RoomFor, linesOf, ComparedMeans, LeftRecords, LeftLists, WalkedRecords, WalkedLists, SameRecords, LessRoom, CheckedMeans, JudgedMeans, donePattern, PatternMeans, doneWritten, WrittenMeans}
+use Rattle.pressbadger.specs.Promises.{SAME, DIFFERENT, FULL, PROVED, DONE, OneOf, compareRefusals, checkRefusals, judgeRefusals, readRefusals, writeRefusals, RoomFor, linesOf, ComparedMeans, LeftRecords, LeftLists, WalkedRecords, WalkedLists, SameRecords, LessRoom, CheckedMeans, JudgedMeans, donePattern, maxRows, longestFile, PatternMeans, doneWritten, WrittenMeans}
 
 -- every refusal is 10 or more, so an answer with a lower number is none
 high : (numbers : List ℕ) {w : ℕ} → allFrom 10 numbers ≡ true → OneOf numbers w → 10 ≤ w
@@ -402,6 +406,10 @@ module _ {bytes : List ℕ} (are : AreBytes bytes) (old : List ℕ) where
         done = h .done;
         returned = λ f. let (v, l) = h .returned f in (patterned (h .done .1 f) v, l);
         refused = (λ m. h .refused .0 (named .0 m), λ f. named .1 (h .refused .1 f));
+        refused-by = λ w place. (
+          λ (m, e, d). h .refused-by w place .0 (named .0 m, e, d),
+          λ p. let (i, e, d) = h .refused-by w place .1 p in (named .1 i, e, d),
+        );
         reason = λ m. h .reason (named .0 m);
         quiet = λ m. let (v, l) = h .quiet (named .0 m) in (patterned refl v, l);
       }
@@ -413,6 +421,13 @@ module _ {bytes : List ℕ} (are : AreBytes bytes) (old : List ℕ) where
 
   pub pb-read-means : {r : PbPattern} {new : List ℕ} → ReadPattern bytes old r new → PatternMeans bytes old r new
   pb-read-means {new = new} k = rw (k .answers) (read-means (k .read) new (k .leaves))
+
+  -- a buffer for the most rows is always enough
+  pub pb-read-enough : {r : PbPattern} {new : List ℕ} → ReadPattern bytes old r new → maxRows ≤ length old
+      → (P : Pattern) (x y : ℕ) → Valid P → Good (P .states) x → Good (P .states) y → bytes ≡ fileBytes P x y → r .answer ≡ DONE
+  pb-read-enough k room P x y v gx gy e =
+      let most : P .states * P .letters ≤ 64 * 32 = mul-le-mul (v .sized .states-fit) (v .sized .letters-fit) in
+      pb-read-means k .done .1 (record { pattern = P; x = x; y = y; valid = v; good-x = gx; good-y = gy; enough = omega (arith, most, room); file = e })
 
 -- ---- pb_write_pattern
 
@@ -438,6 +453,11 @@ module _ (P : Pattern) (x y : ℕ) (old : List ℕ) where
 
   pub pb-write-means : {r : PbWritten} {new : List ℕ} → WrittenPattern P x y old r new → WrittenMeans P x y old r new
   pb-write-means {new = new} k = rw (k .answers) (write-means (k .written) new (k .leaves))
+
+  -- a buffer for the longest file is always enough
+  pub pb-write-enough : {r : PbWritten} {new : List ℕ} → WrittenPattern P x y old r new → longestFile ≤ length old
+      → Valid P → Good (P .states) x → Good (P .states) y → r .answer ≡ DONE
+  pb-write-enough k room v gx gy = pb-write-means k .done .1 (record { valid = v; good-x = gx; good-y = gy; enough = omega (arith, file-short P x y v gx gy, room) })
 
 -- ---- files go round
 

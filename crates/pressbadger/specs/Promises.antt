@@ -32,7 +32,8 @@ use Rattle.comparison.specs.Answers.{Lent, Call, answerOf}
 use Rattle.comparison.specs.Meaning.{SidesGood}
 use Rattle.evidence.specs.Evidence.{Offer, ValidOffer}
 use Rattle.evidence.specs.Meaning.{checkLines, Holding, FailsAt}
-use Rattle.patternfile.specs.PatternFile.{fileBytes}
+use Rattle.numbers.specs.Faults.{Stops}
+use Rattle.patternfile.specs.PatternFile.{fileBytes, patternFormat}
 use Rattle.patternfile.specs.Writer.{Allowed}
 use Rattle.patternfile.specs.Refusals.{RefusedAt, writeLines}
 use Rattle.patternfile.specs.Meaning.{Readable}
@@ -230,12 +231,20 @@ donePattern P x y = record { answer = DONE; states = P .states; letters = P .let
 abbrev pub refusedPattern : ℕ → ℕ → PbPattern
 refusedPattern w place = record { answer = w; states = 0; letters = 0; finals = 0; x = 0; y = 0; place = place }
 
+-- the most rows of a pattern, and the bytes of the longest file: row buffers and byte buffers of these lengths are always enough
+abbrev pub maxRows : ℕ
+maxRows = 2048
+
+abbrev pub longestFile : ℕ
+longestFile = 20512
+
 pub record PatternMeans (bytes old : List ℕ) (r : PbPattern) (new : List ℕ) : Type 0 where
   -- DONE: exactly where the bytes are a file; its values are returned, and its rows lie over the first entries of the buffer
   pub done : (r .answer ≡ DONE) ↔ Readable (length old) bytes
   pub returned : (f : Readable (length old) bytes) → (r ≡ donePattern (f .pattern) (f .x) (f .y)) × (new ≡ lay (f .pattern .rows) old)
-  -- any other is refused, for its reason at its place, and changes nothing
+  -- any other is refused, exactly where reading stops, for its reason at its place, and changes nothing
   pub refused : OneOf readRefusals (r .answer) ↔ (Readable (length old) bytes → ⊥)
+  pub refused-by : (w place : ℕ) → (OneOf readRefusals (r .answer) × (r .answer ≡ w) × (r .place ≡ place)) ↔ Stops (patternFormat (length old)) bytes 0 w place
   pub reason : OneOf readRefusals (r .answer) → RefusedAt (length old) bytes (r .answer) (r .place)
   pub quiet : OneOf readRefusals (r .answer) → (r ≡ refusedPattern (r .answer) (r .place)) × (new ≡ old)
 
