@@ -15,7 +15,7 @@ static void check(int holds, const char *what) {
     }
 }
 
-/* Document 01's patterns. */
+/* The patterns of the scope, §11.1. */
 static const uint64_t A[] = {2, 1, 4};
 static const uint64_t B[] = {2, 4, 3, 48, 32, 8};
 static const uint64_t C[] = {3, 4, 0, 8};

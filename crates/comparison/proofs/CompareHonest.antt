@@ -1,4 +1,4 @@
--- Demand 2, of the call: a call that is not refused gets 0, 1 or 2, each answer means what it says, and a refusal changes nothing. Assumes nothing.
+-- Demand 2 (the scope, §13.3), of the call: a call that is not refused gets 0, 1 or 2, each answer means what it says, and a refusal changes nothing. Assumes nothing.
 use mathlib.Core.Path.{_≡_, refl, ap, _∙_}
 use mathlib.Core.List.{List}
 use Prim.Native.Nat.{ℕ, _≤_}

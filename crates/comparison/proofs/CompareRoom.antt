@@ -1,4 +1,4 @@
--- Demand 3, of the call: what more room changes, and how much is enough. Assumes nothing.
+-- Demand 3 (the scope, §6.9, §6.10), of the call: what more room changes, and how much is enough. Assumes nothing.
 use mathlib.Core.Path.{_≡_, refl, sym, ap, _∙_}
 use mathlib.Core.List.{List, []}
 use Prim.Native.Nat.{ℕ, _+_, _≤_, _<_}

@@ -1,4 +1,4 @@
--- `known-calls`: the starred rows of the scope (§11), as a call gives them: answer, values and memory. Assumes nothing.
+-- `known-calls`: the proved answers of the scope, §11.2, as a call gives them: answer, values and memory. Assumes nothing.
 use mathlib.Core.Path.{_≡_, refl}
 use mathlib.Core.List.{List, [], _∷_}
 use Prim.Native.Nat.{ℕ}

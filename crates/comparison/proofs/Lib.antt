@@ -12,5 +12,5 @@ pub mod CompareDetermined
 pub mod CompareHonest
 pub mod CompareRoom
 pub mod CompareLessRoom
--- the starred rows
+-- the proved answers of the scope, §11.2
 pub mod KnownCalls

@@ -3,7 +3,7 @@
 --   Roomy          a room that is allowed and lent
 --   Comparable     a call that is not refused (`compare-fine`)
 --   compareLines   the lines of the refusals: `compareTest` goes by them (`compare-lines`)
---   Honest         what an answer means, by the numbers that a host sees (demand 2)
+--   Honest         what an answer means, by the numbers that a host sees (the scope, §13.3)
 --   Quiet          what a refusal leaves: every number 0, all that is lent as it was
 --   SameWritten    two calls wrote the same records and the same sequence
 --   LessRoom       what a call in a smaller room answers and leaves, by what the larger one does

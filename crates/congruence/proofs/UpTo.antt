@@ -1,4 +1,4 @@
--- Bisimulation up to congruence (000, theorem 2): pairs that agree on the empty sequence, and whose successors are congruent by
+-- Bisimulation up to congruence (the scope, §4.6; 000, theorem 2): pairs that agree on the empty sequence, and whose successors are congruent by
 -- them, relate only sets with equal languages. Assumes nothing.
 use mathlib.Core.Path.{_≡_, sym, _∙_}
 use mathlib.Core.List.{List, [], _∷_}

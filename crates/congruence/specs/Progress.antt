@@ -1,4 +1,4 @@
--- Bisimulation up to congruence (000, section 3): what a pair of sets owes, and a relation whose pairs all pay it.
+-- Bisimulation up to congruence (the scope, §4.6; 000, section 3): what a pair of sets owes, and a relation whose pairs all pay it.
 --   Progresses P R a b   a and b agree on the empty sequence, and each letter takes them to sets that are congruent by R
 --   Progress P R         each pair of R progresses: congruent sets have one language then (`up-to-congruence`)
 use mathlib.Core.Path.{_≡_}

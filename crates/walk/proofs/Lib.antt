@@ -15,6 +15,6 @@ pub mod MoreRoom
 pub mod LessRoom
 pub mod FullExactly
 pub mod RoomEnough
--- the starred rows
+-- the proved answers of the scope, §11.2
 pub mod Computed
 pub mod KnownAnswers

@@ -21,14 +21,17 @@ struct Repository {
     root: PathBuf,
 }
 
+impl Drop for Repository {
+    fn drop(&mut self) {
+        fs::remove_dir_all(&self.root).expect("the repository is removed");
+    }
+}
+
 impl Repository {
     fn new(name: &str) -> Repository {
-        let root = Path::new(env!("CARGO_TARGET_TMPDIR"))
-            .join("command")
-            .join(name);
-        if root.exists() {
-            fs::remove_dir_all(&root).expect("the last run's is removed");
-        }
+        // Outside of this repository, where files of Rattle that no crate has are a fault.
+        let process = std::process::id();
+        let root = std::env::temp_dir().join(format!("pressbadger-command-{process}-{name}"));
         for folder in ["bin", "crates/compare/src", "crates/walk/src"] {
             fs::create_dir_all(root.join(folder)).expect("a folder is made");
         }

@@ -1,4 +1,4 @@
-//! `compare` as a process: its output, byte for byte, is what document 01 says of its input.
+//! `compare` as a process: its output, byte for byte, is what the scope, §10, says of its input.
 
 use programs::{written_for, written_for_file, written_for_pieces};
 use reference::damage::{damaged, DAMAGES};
@@ -34,7 +34,7 @@ fn holds(input: &[u8]) {
     );
 }
 
-/// Catches a program that prints another line, name, number or order than document 01 says.
+/// Catches a program that prints another line, name, number or order than the scope, §10, says.
 #[test]
 fn good_files_are_answered_as_the_reference_does() {
     let mut random = Random::new(0xC0DE);

@@ -1,4 +1,4 @@
-//! The rules of document 01 written plainly, as a yardstick for the library and the program.
+//! The rules of the scope written plainly, as a yardstick for the library and the program.
 //!
 //! In reading order: the rules themselves (`answers` to `report`), then an
 //! independent judge of equivalence (`subsets`), then what tests draw their

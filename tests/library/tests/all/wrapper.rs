@@ -260,7 +260,7 @@ fn the_wrapper_answers_random_questions_as_the_exports_do() {
 
 /// Catches a refusal left out of the wrapper, or one with another number or name.
 #[test]
-fn every_refusal_has_document_01s_number_and_name() {
+fn every_refusal_has_the_scopes_number_and_name() {
     let all = Refusal::ALL.iter();
     let found = all.map(|refusal| (u64::from(refusal.number()), refusal.name()));
     let refusals = NAMES.iter().filter(|(number, _)| is_refusal(*number));
@@ -298,7 +298,7 @@ fn a_refusal_is_an_error_that_says_what_is_wrong_and_where() {
 
 /// Catches an answer with another number than the scope's.
 #[test]
-fn every_answer_has_document_01s_number() {
+fn every_answer_has_the_scopes_number() {
     let (records, examined, sequence) = (&[][..], 3, &[][..]);
     let same: Compared = Compared::Same { records, examined };
     let full: Compared = Compared::Full { records, examined };
