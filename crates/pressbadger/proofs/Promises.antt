@@ -2,14 +2,13 @@
 -- crates beneath; here it is said of what is returned and left. Assumes nothing.
 use mathlib.Core.Path.{_≡_, refl, sym, ap, _∙_, subst}
 use mathlib.Core.Logic.{_↔_, _⊎_, inl, inr}
-use mathlib.Core.Bool.{Bool, true, false}
-use mathlib.Core.List.{List, [], _∷_, map, List·Memᴰ}
+use mathlib.Core.Bool.{true, false}
+use mathlib.Core.List.{List, [], _∷_, map}
 use mathlib.Core.List.List·Memᴰ.{List·Memᴰ·head, List·Memᴰ·tail}
 use Prim.Native.Nat.{ℕ, zero, suc, _+_, _*_, _≤_, _<_}
 use native.Mathlib.Nat.{mul-le-mul}
 use native.Mathlib.Omega.{arith}
 use lib.ListN.{length, take, drop, length-map}
-use Rattle.verdict.specs.declared.Verdict.the-variants.{Fine, Against}
 use Rattle.verdict.specs.Tests.{need}
 use Rattle.verdict.specs.Lines.{Applies}
 use Rattle.verdict.proofs.Numbered.{allFrom, among-need, among-from}
@@ -19,7 +18,7 @@ use Rattle.sets.specs.Sets.{Good}
 use Rattle.sets.specs.Rooms.{maxRoom}
 use Rattle.pattern.specs.Pattern.{Pattern, patternOf, Valid}
 use Rattle.pattern.specs.Judge as Judge
-use Rattle.pattern.specs.Judge.{judged, Judgeable}
+use Rattle.pattern.specs.Judge.{judged}
 use Rattle.pattern.specs.declared.Judged.{Judged}
 use Rattle.pattern.proofs.Judging.{judge-honest, judge-answered, judge-lines, judge-among}
 use Rattle.walk.specs.Walk.{Question, Outcome, keptOf, wordOf, Walk}
@@ -51,7 +50,6 @@ use Rattle.patternfile.specs.Reader as Reader
 use Rattle.patternfile.specs.Reader.{Reads}
 use Rattle.patternfile.specs.Writer as Writer
 use Rattle.patternfile.specs.Writer.{Writes}
-use Rattle.patternfile.specs.Meaning.{Readable}
 use Rattle.patternfile.specs.declared.PatternRead.{PatternRead}
 use Rattle.patternfile.specs.declared.Written.{Written}
 use Rattle.patternfile.proofs.Returned.{read-number, read-honest, write-number, write-honest}

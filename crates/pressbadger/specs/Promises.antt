@@ -28,7 +28,7 @@ use Rattle.pattern.specs.Judge.{Judgeable, judgeLines}
 use Rattle.walk.specs.Walk.{Question, Outcome, keptOf, wordOf, Walk}
 use Rattle.walk.specs.Columns.{Field, Columns, column, columnsOf, firsts}
 use Rattle.walk.specs.Meaning.{Proper, Outgrows, Tells, numberKept}
-use Rattle.comparison.specs.Answers.{Lent, Call, answerOf}
+use Rattle.comparison.specs.Answers.{Lent, answerOf}
 use Rattle.comparison.specs.Meaning.{SidesGood}
 use Rattle.evidence.specs.Evidence.{Offer, ValidOffer}
 use Rattle.evidence.specs.Meaning.{checkLines, Holding, FailsAt}

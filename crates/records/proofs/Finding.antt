@@ -1,7 +1,7 @@
 -- What the comparison finds in columns of its own is what the comparison over a list of records is to leave. Assumes nothing.
 use mathlib.Core.Path.{_≡_, refl, sym, ap, ap₂, _∙_, subst}
-use mathlib.Core.List.{List, [], _∷_, _++_, map, map-append, List·Memᴰ}
-use mathlib.Core.List.List·Memᴰ.{List·Memᴰ·head, List·Memᴰ·tail}
+use mathlib.Core.List.{List, [], _∷_, map, map-append, List·Memᴰ}
+use mathlib.Core.List.List·Memᴰ.{List·Memᴰ·head}
 use Prim.Native.Nat.{ℕ, zero, suc, _≤_, _<_}
 use native.Mathlib.Omega.{arith}
 use native.Mathlib.Decide.{decLe}
@@ -15,7 +15,7 @@ use Rattle.lent.specs.Lent.{lay}
 use Rattle.lent.proofs.Laying.{lay-none, lay-more, getD-lay}
 use Rattle.sets.specs.Rooms.{maxRoom}
 use Rattle.pattern.specs.Tests.{setTest, shapeTest, masksTest}
-use Rattle.walk.specs.Walk.{Question, Record, Outcome, keptOf, wordOf, Walk}
+use Rattle.walk.specs.Walk.{Question, Record, keptOf, wordOf, Walk}
 use Rattle.walk.specs.Columns.{Field, value, recordBy, Columns, column, layColumns, Fit}
 use Rattle.walk.proofs.Columns.{value-by, record-path, fit-at, fit-by}
 use Rattle.walk.proofs.Counts.{counts}
@@ -31,7 +31,7 @@ use Rattle.records.specs.declared.answers.PbCompared.{PbCompared}
 use Rattle.records.specs.declared.compares.Found.{Found}
 use Rattle.records.specs.Answers.{compareAnswer}
 use Rattle.records.specs.Records.{written, lentFor, callOn, layRecords, ComparedRecords}
-use Rattle.records.specs.Inner.{columnsFound, foundAt, filled, Asked, FoundFor}
+use Rattle.records.specs.Inner.{foundAt, filled, Asked, FoundFor}
 use Rattle.records.proofs.Agreeing.{column-in}
 
 -- ---- the records that are written

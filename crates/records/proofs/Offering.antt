@@ -3,11 +3,11 @@ use mathlib.Core.Path.{_≡_, refl, sym, _∙_}
 use mathlib.Core.List.{List, [], _∷_}
 use Prim.Native.Nat.{ℕ, _≤_, _<_}
 use native.Mathlib.Omega.{arith}
-use lib.ListN.{length, getD, length-map}
+use lib.ListN.{length, length-map}
 use Rattle.sets.specs.Sets.{Good}
 use Rattle.sets.specs.Rooms.{maxRoom}
 use Rattle.pattern.specs.Pattern.{Pattern, Valid}
-use Rattle.pattern.specs.Language.{next, reach, Over}
+use Rattle.pattern.specs.Language.{reach, Over}
 use Rattle.pattern.specs.Language.Over.{empty, letter}
 use Rattle.pattern.proofs.Steps.{next-good}
 use Rattle.walk.specs.Walk.{Question, Record, leftsOf, rightsOf, Position, Ends, Walk}

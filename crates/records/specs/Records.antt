@@ -4,7 +4,7 @@
 --   callOn              the call over columns that a host's list and the sequence bytes stand for
 --   layRecords          the kept records in the first places, every other record as it was
 --   ComparedRecords     the answer, the records and the sequence: one result for every call (`pb-compare-determined`), the same as over columns
---                       (`pb-compare-by-columns`)
+--                       (`pb-compare-by-columns`, `pb-compare-agrees`)
 use mathlib.Core.Path.{_≡_}
 use mathlib.Core.List.{List, map}
 use Prim.Native.Nat.{ℕ}
