@@ -29,6 +29,8 @@ import sys
 ROOT = pathlib.Path(__file__).resolve().parent.parent
 FACT = ("tactic", "mismatch", "unproved")
 ERROR = re.compile(r"^(\S+?):(\d+):(\d+): error: (.*)$")
+# what antt adds to an error where it shows a term with names that are bound elsewhere
+ADVICE = re.compile(r"^.* not in scope here, so what is shown does not paste back.*$", re.M)
 FOLLOWS = re.compile(r"was not admitted\b.*so this cannot be checked")
 IN = re.compile(r"^`([^`]+)`: ")
 TACTIC = re.compile(
@@ -61,6 +63,7 @@ def kind(said):
     """The kind of one error, from what it says."""
     m = IN.match(said)
     name, text = (m.group(1), said[m.end():]) if m else ("", said)
+    text = ADVICE.sub("", text)
     if NEED.search(text):
         return "need"
     if SHAPE.search(text.split("\n")[0]):
