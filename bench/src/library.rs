@@ -1,5 +1,5 @@
 //! What a host lends to the library's comparison, made once and not cleared between calls.
-use pressbadger::{compare, compare_lists, Compared, Pattern, Record};
+use pressbadger::{compare, compare_lists, Compared, Pattern, Record, Refused};
 use reference::questions::Question;
 
 /// The number of the answer, and how many were kept and examined.
@@ -14,12 +14,13 @@ fn pattern(question: &Question) -> Pattern<'_> {
     }
 }
 
-fn counts<Records>(compared: &Compared<'_, Records>, kept: impl Fn(&Records) -> usize) -> Counts {
-    let (records, examined) = match compared {
+fn counts<Records>(compared: Result<Compared<'_, Records>, Refused>, kept: impl Fn(&Records) -> usize) -> Counts {
+    let compared = compared.expect("no question is refused");
+    let (records, examined) = match &compared {
         Compared::Same { records, examined }
         | Compared::Different { records, examined, .. }
         | Compared::Full { records, examined } => (records, *examined),
-        Compared::Refused(refusal) => panic!("{refusal:?}"),
+        _ => panic!("an answer that is not known here"),
     };
     (u64::from(compared.number()), kept(records) as u64, examined as u64)
 }
@@ -29,7 +30,7 @@ pub struct ByLists {
     lefts: Vec<u64>,
     rights: Vec<u64>,
     parents: Vec<u16>,
-    letters: Vec<u8>,
+    taken: Vec<u8>,
     sequence: Vec<u8>,
 }
 
@@ -39,7 +40,7 @@ impl ByLists {
             lefts: vec![0; room],
             rights: vec![0; room],
             parents: vec![0; room],
-            letters: vec![0; room],
+            taken: vec![0; room],
             sequence: vec![0; room],
         }
     }
@@ -50,10 +51,10 @@ impl ByLists {
             lefts: &mut self.lefts,
             rights: &mut self.rights,
             parents: &mut self.parents,
-            letters: &mut self.letters,
+            taken: &mut self.taken,
         };
         let compared = compare_lists(&pattern(question), question.x, question.y, room, lists, &mut self.sequence);
-        counts(&compared, |columns| columns.lefts.len())
+        counts(compared, |columns| columns.lefts.len())
     }
 }
 
@@ -74,6 +75,6 @@ impl ByRecords {
     pub fn compare(&mut self, question: &Question) -> Counts {
         let room = self.sequence.len();
         let compared = compare(&pattern(question), question.x, question.y, room, &mut self.records, &mut self.sequence);
-        counts(&compared, |records| records.len())
+        counts(compared, |records| records.len())
     }
 }

@@ -1,28 +1,12 @@
-//! Finds the static library and links it.
+//! Links the static library of the exports.
 
-use std::path::{Path, PathBuf};
-use std::{env, process};
+mod static_library;
 
-/// Names the folder that has the static library, where it is not this repository's own.
-const FOLDER: &str = "PRESSBADGER_LIB_DIR";
+use std::path::Path;
 
 fn main() {
-    println!("cargo::rerun-if-env-changed={FOLDER}");
-    let folder = env::var_os(FOLDER).map_or_else(built_here, PathBuf::from);
-    let library = folder.join("libpressbadger.a");
-    println!("cargo::rerun-if-changed={}", library.display());
-    if !library.is_file() {
-        eprintln!(
-            "{} is not there: run `rt staticlib pressbadger`, or set {FOLDER} to the folder that has it",
-            library.display()
-        );
-        process::exit(1);
-    }
-    println!("cargo::rustc-link-search=native={}", folder.display());
-    println!("cargo::rustc-link-lib=static=pressbadger");
-}
-
-/// Where `rt staticlib` writes.
-fn built_here() -> PathBuf {
-    Path::new(env!("CARGO_MANIFEST_DIR")).join("../../target/staticlib")
+    static_library::link(
+        "pressbadger",
+        &Path::new(env!("CARGO_MANIFEST_DIR")).join("../.."),
+    );
 }

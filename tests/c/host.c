@@ -15,7 +15,7 @@ static void check(int holds, const char *what) {
     }
 }
 
-/* Document 01's patterns. */
+/* The patterns of the scope, §11.1. */
 static const uint64_t A[] = {2, 1, 4};
 static const uint64_t B[] = {2, 4, 3, 48, 32, 8};
 static const uint64_t C[] = {3, 4, 0, 8};
@@ -157,6 +157,14 @@ static void files(void) {
     check(p.answer == PB_NO_ROOM && p.place == 2, "two rows are too few");
 }
 
+/* Catches a number that is taken for a refusal because it is high, and a refusal that is not taken for one. */
+static void tells_refusals(void) {
+    static const uint8_t refusals[] = {PB_BAD_SIZE, PB_BAD_TABLE, PB_BAD_SET, PB_BAD_ROOM, PB_NO_ROOM,
+                                       PB_BAD_LETTER, PB_BAD_LIST, PB_CUT, PB_LONG, PB_TAIL};
+    for (unsigned answer = 0; answer < 256; answer++)
+        check(pb_is_refusal((uint8_t)answer) == (memchr(refusals, (int)answer, sizeof refusals) != NULL), "a refusal by its number");
+}
+
 int main(void) {
     check(sizeof(pb_record) == 24, "a record has 24 bytes");
     check(pb_version() == PB_VERSION, "the header is that of the library");
@@ -167,6 +175,7 @@ int main(void) {
     judges();
     checks();
     files();
+    tells_refusals();
     printf("%d passed, %d failed\n", passed, failed);
     return failed == 0 ? 0 : 1;
 }

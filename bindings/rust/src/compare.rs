@@ -1,7 +1,7 @@
 //! Comparing two sets of states.
 
-use crate::exports;
-use crate::{Pattern, Refusal};
+use crate::{exports, version};
+use crate::{Pattern, Refused};
 
 /// The largest room that may be asked for.
 pub const MAX_ROOM: usize = 1024;
@@ -25,6 +25,7 @@ pub struct Record {
 
 /// What a comparison answers. `Records` is how the kept records are lent and given back.
 #[derive(Clone, Copy, Debug, PartialEq, Eq)]
+#[non_exhaustive]
 pub enum Compared<'lent, Records = &'lent [Record]> {
     /// Every event sequence is accepted from both sets or from neither.
     Same {
@@ -49,18 +50,15 @@ pub enum Compared<'lent, Records = &'lent [Record]> {
         /// How many candidates were dealt with, the one without room included.
         examined: usize,
     },
-    /// The question is refused.
-    Refused(Refusal),
 }
 
 impl<Records> Compared<'_, Records> {
-    /// Document 01's number for it.
+    /// The scope's number for it.
     pub const fn number(&self) -> u8 {
         match self {
             Compared::Same { .. } => 0,
             Compared::Different { .. } => 1,
             Compared::Full { .. } => 2,
-            Compared::Refused(refusal) => refusal.number(),
         }
     }
 }
@@ -70,26 +68,27 @@ fn answered<Records>(
     compared: exports::PbCompared,
     records: Records,
     sequence: &mut [u8],
-) -> Compared<'_, Records> {
+) -> Result<Compared<'_, Records>, Refused> {
     let examined = compared.examined;
     match compared.answer {
-        0 => Compared::Same { records, examined },
-        1 => Compared::Different {
+        0 => Ok(Compared::Same { records, examined }),
+        1 => Ok(Compared::Different {
             records,
             examined,
             sequence: &sequence[..compared.length],
-        },
-        2 => Compared::Full { records, examined },
-        refusal => Compared::Refused(Refusal::from_answer(refusal)),
+        }),
+        2 => Ok(Compared::Full { records, examined }),
+        refusal => Err(Refused::from_answer(refusal, None)),
     }
 }
 
 /// Whether the sets `x` and `y` accept the same event sequences, with room for so many records.
 ///
 /// `records` and `sequence` may be longer than the room; what is not given back, and all of it on a
-/// refusal, keeps its content. More room never changes an answer other than FULL. A room as large
-/// as the number of distinct sets that sequences lead to from `x` or `y` never gives FULL. The
-/// refusals are, in this order, BAD-SIZE, BAD-TABLE, BAD-ROOM and BAD-SET.
+/// refusal, keeps its content. More room never changes an answer other than FULL, unless the larger
+/// call is refused. A room as large as the number of distinct sets that sequences lead to from `x`
+/// or `y` never gives FULL. The refusals are, in this order, BAD-SIZE, BAD-TABLE, BAD-ROOM and
+/// BAD-SET.
 pub fn compare<'lent>(
     pattern: &Pattern<'_>,
     x: u64,
@@ -97,7 +96,8 @@ pub fn compare<'lent>(
     room: usize,
     records: &'lent mut [Record],
     sequence: &'lent mut [u8],
-) -> Compared<'lent> {
+) -> Result<Compared<'lent>, Refused> {
+    version::hold();
     // SAFETY: the rows are valid for reads, records and sequence for writes of their counts, and
     // slices that are lent for writing overlap with no other.
     let compared = unsafe {
@@ -128,7 +128,8 @@ pub fn compare_default<'lent>(
     y: u64,
     records: &'lent mut [Record],
     sequence: &'lent mut [u8],
-) -> Compared<'lent> {
+) -> Result<Compared<'lent>, Refused> {
+    version::hold();
     // SAFETY: as for `compare`.
     let compared = unsafe {
         exports::pb_compare_default(
@@ -159,7 +160,7 @@ pub struct Lists<'lent> {
     /// For the parents.
     pub parents: &'lent mut [u16],
     /// For the letters taken.
-    pub letters: &'lent mut [u8],
+    pub taken: &'lent mut [u8],
 }
 
 /// Kept records column by column: record i is entry i of each.
@@ -172,7 +173,7 @@ pub struct Columns<'lent> {
     /// The parents.
     pub parents: &'lent [u16],
     /// The letters taken.
-    pub letters: &'lent [u8],
+    pub taken: &'lent [u8],
 }
 
 /// [`compare`] for a host with little stack: it has no table of its own.
@@ -183,7 +184,8 @@ pub fn compare_lists<'lent>(
     room: usize,
     lists: Lists<'lent>,
     sequence: &'lent mut [u8],
-) -> Compared<'lent, Columns<'lent>> {
+) -> Result<Compared<'lent, Columns<'lent>>, Refused> {
+    version::hold();
     // SAFETY: as for `compare`.
     let compared = unsafe {
         exports::pb_compare_lists(
@@ -201,8 +203,8 @@ pub fn compare_lists<'lent>(
             lists.rights.len(),
             lists.parents.as_mut_ptr(),
             lists.parents.len(),
-            lists.letters.as_mut_ptr(),
-            lists.letters.len(),
+            lists.taken.as_mut_ptr(),
+            lists.taken.len(),
             sequence.as_mut_ptr(),
             sequence.len(),
         )
@@ -212,7 +214,7 @@ pub fn compare_lists<'lent>(
         lefts: &lists.lefts[..kept],
         rights: &lists.rights[..kept],
         parents: &lists.parents[..kept],
-        letters: &lists.letters[..kept],
+        taken: &lists.taken[..kept],
     };
     answered(compared, columns, sequence)
 }

@@ -1,13 +1,14 @@
 //! Checking a list of pairs that somebody else offers as evidence.
 
-use crate::exports;
-use crate::{Pattern, Record, Refusal};
+use crate::{exports, version};
+use crate::{Pattern, Record, Refused};
 
 /// The most pairs that evidence may have.
 pub const MAX_PAIRS: usize = 1024;
 
 /// What [`check`] answers.
 #[derive(Clone, Copy, Debug, PartialEq, Eq)]
+#[non_exhaustive]
 pub enum Checked {
     /// The evidence holds: both sets accept the same sequences, whoever wrote the list.
     Proved,
@@ -16,17 +17,14 @@ pub enum Checked {
         /// The number of pairs if the starting pair is not listed, else the lowest failing pair.
         place: usize,
     },
-    /// The question is refused.
-    Refused(Refusal),
 }
 
 impl Checked {
-    /// Document 01's number for it.
+    /// The scope's number for it.
     pub const fn number(self) -> u8 {
         match self {
             Checked::Proved => 5,
             Checked::NotProved { .. } => 6,
-            Checked::Refused(refusal) => refusal.number(),
         }
     }
 }
@@ -37,7 +35,14 @@ impl Checked {
 /// The evidence holds exactly when (`x`, `y`) itself is a listed pair, in that order, and each pair
 /// agrees on the empty sequence and has, for each letter, successors congruent by the list. The
 /// refusals are, in this order, BAD-SIZE, BAD-TABLE, BAD-LIST and BAD-SET.
-pub fn check(pattern: &Pattern<'_>, x: u64, y: u64, lefts: &[u64], rights: &[u64]) -> Checked {
+pub fn check(
+    pattern: &Pattern<'_>,
+    x: u64,
+    y: u64,
+    lefts: &[u64],
+    rights: &[u64],
+) -> Result<Checked, Refused> {
+    version::hold();
     // SAFETY: all three slices are valid for reads of their counts, and the call only reads them.
     let checked = unsafe {
         exports::pb_check(
@@ -59,7 +64,13 @@ pub fn check(pattern: &Pattern<'_>, x: u64, y: u64, lefts: &[u64], rights: &[u64
 
 /// [`check`] of the pairs of a list of records, as a comparison leaves it. Parents and letters are
 /// not looked at.
-pub fn check_records(pattern: &Pattern<'_>, x: u64, y: u64, records: &[Record]) -> Checked {
+pub fn check_records(
+    pattern: &Pattern<'_>,
+    x: u64,
+    y: u64,
+    records: &[Record],
+) -> Result<Checked, Refused> {
+    version::hold();
     // SAFETY: both slices are valid for reads of their counts, and the call only reads them.
     let checked = unsafe {
         exports::pb_check_records(
@@ -77,12 +88,12 @@ pub fn check_records(pattern: &Pattern<'_>, x: u64, y: u64, records: &[Record]) 
     answered(checked)
 }
 
-fn answered(checked: exports::PbChecked) -> Checked {
+fn answered(checked: exports::PbChecked) -> Result<Checked, Refused> {
     match checked.answer {
-        5 => Checked::Proved,
-        6 => Checked::NotProved {
+        5 => Ok(Checked::Proved),
+        6 => Ok(Checked::NotProved {
             place: checked.place,
-        },
-        refusal => Checked::Refused(Refusal::from_answer(refusal)),
+        }),
+        refusal => Err(Refused::from_answer(refusal, None)),
     }
 }

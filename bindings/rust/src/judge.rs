@@ -1,26 +1,24 @@
 //! Judging one event sequence from one set of states.
 
-use crate::exports;
-use crate::{Pattern, Refusal};
+use crate::{exports, version};
+use crate::{Pattern, Refused};
 
 /// What [`judge`] answers.
 #[derive(Clone, Copy, Debug, PartialEq, Eq)]
+#[non_exhaustive]
 pub enum Judged {
     /// The sequence is accepted from the set.
     Accept,
     /// The sequence is not accepted from the set.
     Reject,
-    /// The question is refused.
-    Refused(Refusal),
 }
 
 impl Judged {
-    /// Document 01's number for it.
+    /// The scope's number for it.
     pub const fn number(self) -> u8 {
         match self {
             Judged::Accept => 3,
             Judged::Reject => 4,
-            Judged::Refused(refusal) => refusal.number(),
         }
     }
 }
@@ -30,7 +28,8 @@ impl Judged {
 /// A set accepts the empty sequence if it meets the finals. A letter takes a set to the union of
 /// the rows of its members. The refusals are, in this order, BAD-SIZE, BAD-TABLE, BAD-SET and
 /// BAD-LETTER.
-pub fn judge(pattern: &Pattern<'_>, set: u64, sequence: &[u8]) -> Judged {
+pub fn judge(pattern: &Pattern<'_>, set: u64, sequence: &[u8]) -> Result<Judged, Refused> {
+    version::hold();
     // SAFETY: both slices are valid for reads of their counts, and the call only reads them.
     let judged = unsafe {
         exports::pb_judge(
@@ -45,8 +44,8 @@ pub fn judge(pattern: &Pattern<'_>, set: u64, sequence: &[u8]) -> Judged {
         )
     };
     match judged.answer {
-        3 => Judged::Accept,
-        4 => Judged::Reject,
-        refusal => Judged::Refused(Refusal::from_answer(refusal)),
+        3 => Ok(Judged::Accept),
+        4 => Ok(Judged::Reject),
+        refusal => Err(Refused::from_answer(refusal, None)),
     }
 }

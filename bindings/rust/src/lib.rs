@@ -25,8 +25,8 @@ pub use compare::{
     MAX_ROOM,
 };
 pub use evidence::{check, check_records, Checked, MAX_PAIRS};
-pub use file::{read_pattern, write_pattern, PatternRead, PatternWritten, LONGEST_FILE, MAX_ROWS};
+pub use file::{read_pattern, write_pattern, PatternRead, LONGEST_FILE, MAX_ROWS};
 pub use judge::{judge, Judged};
 pub use pattern::{Pattern, MAX_LETTERS, MAX_STATES};
-pub use refusal::Refusal;
+pub use refusal::{Refusal, Refused};
 pub use version::{version, VERSION};

@@ -1,3 +1,4 @@
--- Congruence, and what closing a set yields.
+-- Congruence, what closing a set yields, and bisimulation up to congruence.
 pub mod Congruence
 pub mod Closing
+pub mod Progress

@@ -1,5 +1,4 @@
--- The names of events. Document 01, 'The program': "Event names by letter, 0 to 11: READ, STABLE, DROP, DRYHOP, CRASH, WARM, CAP, VENT,
--- TRANSFER, SAMPLE, CLOCKBACK, CLOCKON. Letters 12 to 31 are E12 to E31." The laws stand in proofs/.
+-- The names of events (the scope, §10): twelve by letter, and a number for every other. The laws stand in proofs/.
 --   names              the twelve names, by letter
 --   eventName letter   one of the twelve, or E and the letter's number. A name has one to nine bytes (`name-some`, `name-short`, `name-longest`),
 --                      and letters below 32 have different names (`name-injective`)

@@ -1,9 +1,9 @@
-// The event names: document 01's twelve in one table, and E with its number for every other letter.
+// The event names: the scope's twelve in one table, and E with its number for every other letter.
 ghost use mathlib.Core.Path.{_≡_};
 ghost use Prim.Native.Nat.{_+_, _<_, _≤_};
 ghost use lib.ListN.{length};
 ghost use Rattle.events.specs.Events.{eventName};
-ghost use Rattle.text.specs.Text.{Put};
+ghost use Rattle.lent.specs.Lent.{Puts};
 use text::put_byte;
 use text::put_bytes;
 use text::put_decimal;
@@ -35,7 +35,7 @@ fn length_of(row: usize) -> usize
 
 pub fn put_name(out: &mut [u8], at: usize, letter: u8) -> usize
     requires { ⌜ at + length (eventName letter) ≤ length (now out) ⌝ }
-    ensures { λ r. ⌜ Put (now (out .entry)) at (eventName letter) r (now (out .exit)) ⌝ }
+    ensures { λ r. ⌜ Puts out at (eventName letter) r ⌝ }
 {
     if letter < 12 {
         let row = letter as usize;

@@ -1,41 +1,16 @@
 -- What the three loops of the check keep: the pairs looked at, the letters tried, the pairs that hold. Assumes nothing.
-use mathlib.Core.Path.{_≡_, refl, sym}
-use mathlib.Core.Bool.{Bool, true, false, not, Bool·beq}
+use mathlib.Core.Path.{_≡_}
 use mathlib.Core.List.{List, []}
 use Prim.Native.Nat.{ℕ, _+_, _≤_, _<_}
 use native.Mathlib.Omega.{arith}
 use lib.ListN.{length, getD}
 use borrow.Author.Count.{below-none, below-more}
-use Rattle.verdict.specs.Tests.{Decides}
 use Rattle.pattern.specs.Pattern.{Pattern}
 use Rattle.pattern.specs.Language.{next, accepts}
 use Rattle.congruence.specs.Congruence.{Congruent, Listed}
 use Rattle.evidence.specs.Evidence.{Starts, Holds, HoldsAt, HoldBelow, ByPairs}
 use Rattle.evidence.specs.Evidence.ByPairs.{all-hold}
 use Rattle.evidence.specs.declared.Answer.the-variants.{Proved}
-
--- ---- flags
-
-true-false : true ≡ false → ⊥
-true-false e = let z : _≡_ {A = ℕ} 0 1 = cc in omega arith
-
-pub decided-yes : {A : Type 0} → A → Decides A true
-decided-yes h = record { sound = λ e. h; complete = λ e. absurd (true-false e) }
-
-pub decided-no : {A : Type 0} → (A → ⊥) → Decides A false
-decided-no f = record { sound = λ e. absurd (true-false (sym e)); complete = λ e. f }
-
-pub flags-differ : (p q : Bool) → not (Bool·beq p q) ≡ true → p ≡ q → ⊥
-flags-differ true true e d = true-false (sym e)
-flags-differ true false e d = true-false d
-flags-differ false true e d = true-false (sym d)
-flags-differ false false e d = true-false (sym e)
-
-pub flags-agree : (p q : Bool) → not (Bool·beq p q) ≡ false → p ≡ q
-flags-agree true true e = refl
-flags-agree true false e = e
-flags-agree false true e = sym e
-flags-agree false false e = refl
 
 -- ---- the starting pair
 

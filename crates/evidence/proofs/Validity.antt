@@ -3,26 +3,27 @@ use mathlib.Core.Path.{_≡_, refl}
 use mathlib.Core.Logic.{_↔_}
 use mathlib.Core.Bool.{and-eq-true-iff}
 use mathlib.Core.List.{List}
-use Prim.Native.Nat.{ℕ, _≤_, _<_}
-use lib.ListN.{length, getD}
+use Prim.Native.Nat.{ℕ, _≤_}
+use lib.ListN.{length}
 use lib.Dec.{leb, eqb}
 use borrow.Author.Tests.{leb-true, le-leb, eqb-true, eq-eqb}
 use Rattle.verdict.specs.declared.Verdict.the-variants.{Fine}
 use Rattle.verdict.proofs.Ordered.{need-holds, need-fine, order-fine}
 use Rattle.sets.specs.Sets.{Good}
+use Rattle.sets.specs.Rooms.{maxRoom}
+use Rattle.pattern.specs.Pattern.{AllGood}
 use Rattle.pattern.proofs.Validity.{set-fine, sets-fine, shape-fine, masks-fine}
 use Rattle.evidence.specs.Evidence.{Offer, ValidOffer, listTest, pairsTest, checkTest}
 
-list-fine : (lefts rights : ℕ) → (listTest lefts rights ≡ Fine) ↔ ((lefts ≤ 1024) × (lefts ≡ rights))
+pub list-fine : (lefts rights : ℕ) → (listTest lefts rights ≡ Fine) ↔ ((lefts ≤ maxRoom) × (lefts ≡ rights))
 unfolding listTest
 list-fine lefts rights = (
-  λ e. let (p, q) = and-eq-true-iff (leb lefts 1024) (eqb lefts rights) .0 (need-fine _ 16 e) in (leb-true lefts 1024 p, eqb-true lefts rights q),
-  λ (p, q). need-holds _ 16 (rw (le-leb lefts 1024 p, eq-eqb lefts rights q) refl),
+  λ e. let (p, q) = and-eq-true-iff (leb lefts maxRoom) (eqb lefts rights) .0 (need-fine _ 16 e) in (leb-true lefts maxRoom p, eqb-true lefts rights q),
+  λ (p, q). need-holds _ 16 (rw (le-leb lefts maxRoom p, eq-eqb lefts rights q) refl),
 )
 
 -- 12 for X, Y and the pairs
-pairs-fine : (n x y : ℕ) (lefts rights : List ℕ) → (pairsTest n x y lefts rights ≡ Fine)
-    ↔ (Good n x × Good n y × ((i : ℕ) → i < length lefts → Good n (getD lefts i 0)) × ((i : ℕ) → i < length rights → Good n (getD rights i 0)))
+pub pairs-fine : (n x y : ℕ) (lefts rights : List ℕ) → (pairsTest n x y lefts rights ≡ Fine) ↔ (Good n x × Good n y × AllGood n lefts × AllGood n rights)
 unfolding pairsTest
 pairs-fine n x y lefts rights = (
   λ e. let (p, (q, (l, (r, _)))) = order-fine _ .0 e in (set-fine n x .0 p, set-fine n y .0 q, sets-fine n lefts .0 l, sets-fine n rights .0 r),

@@ -1,12 +1,12 @@
 -- Evidence: somebody offers a list of pairs to show that X and Y have one language. Whoever wrote it, PROVED means that they have (`evidence-means-same`).
 --   Offer        what is offered: a pattern, X and Y, and the two sides of the list
 --   Starts       the starting pair is in order: (X, Y) itself is a listed pair, in that order
---   Holds        a pair agrees on the empty sequence and has, for each letter, successors congruent by the list
+--   Holds        a pair agrees on the empty sequence and has, for each letter, successors congruent by the list: it progresses
 --   HoldsAt i    pair i of the list holds; HoldBelow i: pairs 0 to i - 1 do
 --   checkTest    what is refused, in the order 10, 11, 16, 12
 --   ValidOffer   an offer that is not refused (`offer-valid`)
---   Checked      what the check answers: one answer to each offer (`check-determined`, `proved-exactly`, `not-proved-place`)
---   numberOf, placeOf   document 01's number of an answer, and the place returned with it
+--   Checked      what the check answers: one answer to each offer (`check-determined`)
+--   numberOf, placeOf   the scope's number of an answer, and the place returned with it; what they mean stands in specs/Meaning
 use mathlib.Core.Path.{_≡_}
 use mathlib.Core.Bool.{_&&_}
 use mathlib.Core.List.{List, [], _∷_}
@@ -16,11 +16,13 @@ use lib.Dec.{leb, eqb}
 use Rattle.verdict.specs.declared.Verdict.{Verdict}
 use Rattle.verdict.specs.declared.Verdict.the-variants.{Fine, Against}
 use Rattle.verdict.specs.Tests.{need, inOrder, each}
+use Rattle.lent.specs.Lent.{Slice, before}
 use Rattle.sets.specs.Sets.{Good}
-use Rattle.pattern.specs.Pattern.{Pattern, patternOf, Valid}
+use Rattle.sets.specs.Rooms.{maxRoom}
+use Rattle.pattern.specs.Pattern.{Pattern, patternOf, AllGood, Valid}
 use Rattle.pattern.specs.Tests.{shapeTest, masksTest, setTest}
-use Rattle.pattern.specs.Language.{next, accepts}
-use Rattle.congruence.specs.Congruence.{Congruent, Listed}
+use Rattle.congruence.specs.Congruence.{Listed}
+use Rattle.congruence.specs.Progress.{Progresses}
 use Rattle.evidence.specs.declared.Answer.{Answer}
 use Rattle.evidence.specs.declared.Answer.the-variants.{Proved, NotProved, Refused}
 
@@ -34,14 +36,17 @@ pub record Offer : Type 0 where
 abbrev pub offerOf : ℕ → ℕ → ℕ → List ℕ → ℕ → ℕ → List ℕ → List ℕ → Offer
 offerOf n k finals rows x y lefts rights = record { pattern = patternOf n k finals rows; x = x; y = y; lefts = lefts; rights = rights }
 
+-- the offer of a call that is lent its rows and the two sides
+abbrev pub offerIn : ℕ → ℕ → ℕ → Slice → ℕ → ℕ → Slice → Slice → Offer
+offerIn n k finals rows x y lefts rights = offerOf n k finals (before rows) x y (before lefts) (before rights)
+
 -- ---- the pairs
 
 abbrev pub Starts : List ℕ → List ℕ → ℕ → ℕ → Type 0
 Starts lefts rights x y = Listed lefts rights x y
 
-pub record Holds (P : Pattern) (lefts rights : List ℕ) (a b : ℕ) : Type 0 where
-  pub agrees : accepts P a [] ≡ accepts P b []
-  pub steps : (letter : ℕ) → letter < P .letters → Congruent (Listed lefts rights) (next P a letter) (next P b letter)
+abbrev pub Holds : Pattern → List ℕ → List ℕ → ℕ → ℕ → Type 0
+Holds P lefts rights a b = Progresses P (Listed lefts rights) a b
 
 abbrev pub HoldsAt : Pattern → List ℕ → List ℕ → ℕ → Type 0
 HoldsAt P lefts rights i = Holds P lefts rights (getD lefts i 0) (getD rights i 0)
@@ -51,9 +56,9 @@ HoldBelow P lefts rights i = (j : ℕ) → j < i → HoldsAt P lefts rights j
 
 -- ---- the refusals
 
--- 16 BAD-LIST: at most 1024 pairs, and two sides of one length
+-- 16 BAD-LIST: at most as many pairs as the largest room, and two sides of one length
 unfoldable pub listTest : ℕ → ℕ → Verdict
-listTest lefts rights = need (leb lefts 1024 && eqb lefts rights) 16
+listTest lefts rights = need (leb lefts maxRoom && eqb lefts rights) 16
 
 -- 12 BAD-SET: X, Y, and both sides of all pairs
 unfoldable pub pairsTest : ℕ → ℕ → ℕ → List ℕ → List ℕ → Verdict
@@ -70,12 +75,12 @@ checkTest o =
 
 pub record ValidOffer (o : Offer) : Type 0 where
   pub pattern : Valid (o .pattern)
-  pub pairs-fit : length (o .lefts) ≤ 1024
+  pub pairs-fit : length (o .lefts) ≤ maxRoom
   pub sides-match : length (o .lefts) ≡ length (o .rights)
   pub x-good : Good (o .pattern .states) (o .x)
   pub y-good : Good (o .pattern .states) (o .y)
-  pub lefts-good : (i : ℕ) → i < length (o .lefts) → Good (o .pattern .states) (getD (o .lefts) i 0)
-  pub rights-good : (i : ℕ) → i < length (o .rights) → Good (o .pattern .states) (getD (o .rights) i 0)
+  pub lefts-good : AllGood (o .pattern .states) (o .lefts)
+  pub rights-good : AllGood (o .pattern .states) (o .rights)
 
 -- ---- the answer
 

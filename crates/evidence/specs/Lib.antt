@@ -1,2 +1,3 @@
--- Evidence: a list of pairs that somebody offers, and what its check answers.
+-- Evidence: a list of pairs that somebody offers, what its check answers, and what the answers mean.
 pub mod Evidence
+pub mod Meaning

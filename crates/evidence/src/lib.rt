@@ -2,9 +2,10 @@
 ghost use mathlib.Core.Path.{_≡_};
 ghost use Prim.Native.Nat.{_*_, _≤_};
 ghost use lib.ListN.{length};
+ghost use Rattle.lent.specs.Lent.{before};
 ghost use Rattle.verdict.specs.Tests.{Decides};
-ghost use Rattle.pattern.specs.Pattern.{patternOf};
-ghost use Rattle.evidence.specs.Evidence.{offerOf, Starts, Holds, ByPairs, Checked};
+ghost use Rattle.pattern.specs.Pattern.{patternIn};
+ghost use Rattle.evidence.specs.Evidence.{offerIn, Starts, Holds, ByPairs, Checked};
 ghost use Rattle.evidence.specs.Evidence.{listTest, pairsTest, checkTest};
 use sets::States;
 use verdict::Verdict;
@@ -28,7 +29,7 @@ fn list_test(lefts: usize, rights: usize) -> Verdict
 
 // BAD-SET: the starting pair and all listed ones.
 fn pairs_test(states: usize, x: u64, y: u64, lefts: &[u64], rights: &[u64]) -> Verdict
-    ensures { λ r. ⌜ r ≡ pairsTest states x y (now (lefts .entry)) (now (rights .entry)) ⌝ }
+    ensures { λ r. ⌜ r ≡ pairsTest states x y (before lefts) (before rights) ⌝ }
 {
     let first = pattern::set_test(states, x);
     let Verdict::Fine = first else {
@@ -45,7 +46,7 @@ fn pairs_test(states: usize, x: u64, y: u64, lefts: &[u64], rights: &[u64]) -> V
     pattern::sets_test(states, rights)
 }
 
-// The tests of `check`, in document 01's order.
+// The tests of `check`, in the scope's order.
 fn check_test(
     states: usize,
     letters: usize,
@@ -56,7 +57,7 @@ fn check_test(
     lefts: &[u64],
     rights: &[u64],
 ) -> Verdict
-    ensures { λ r. ⌜ r ≡ checkTest (offerOf states letters finals (now (rows .entry)) x y (now (lefts .entry)) (now (rights .entry))) ⌝ }
+    ensures { λ r. ⌜ r ≡ checkTest (offerIn states letters finals rows x y lefts rights) ⌝ }
 {
     let shape = pattern::shape_test(states, letters, rows);
     let Verdict::Fine = shape else {
@@ -76,7 +77,7 @@ fn check_test(
 // Whether (x, y) itself is a listed pair, in that order.
 fn starts(lefts: &[u64], rights: &[u64], x: u64, y: u64) -> bool
     requires { ⌜ length (now lefts) ≡ length (now rights) ⌝ }
-    ensures { λ r. ⌜ Decides (Starts (now (lefts .entry)) (now (rights .entry)) x y) r ⌝ }
+    ensures { λ r. ⌜ Decides (Starts (before lefts) (before rights) x y) r ⌝ }
 {
     let mut i = 0;
     while i < lefts.len() {
@@ -102,7 +103,7 @@ fn holds(
     requires { ⌜ states ≤ 64 ⌝ }
     requires { ⌜ length (now rows) ≡ states * letters ⌝ }
     requires { ⌜ length (now lefts) ≡ length (now rights) ⌝ }
-    ensures { λ r. ⌜ Decides (Holds (patternOf states letters finals (now (rows .entry))) (now (lefts .entry)) (now (rights .entry)) a b) r ⌝ }
+    ensures { λ r. ⌜ Decides (Holds (patternIn states letters finals rows) (before lefts) (before rights) a b) r ⌝ }
 {
     if sets::meets(a, finals) != sets::meets(b, finals) {
         return false;
@@ -131,7 +132,7 @@ fn by_pairs(
     requires { ⌜ states ≤ 64 ⌝ }
     requires { ⌜ length (now rows) ≡ states * letters ⌝ }
     requires { ⌜ length (now lefts) ≡ length (now rights) ⌝ }
-    ensures { λ r. ⌜ ByPairs (patternOf states letters finals (now (rows .entry))) (now (lefts .entry)) (now (rights .entry)) r ⌝ }
+    ensures { λ r. ⌜ ByPairs (patternIn states letters finals rows) (before lefts) (before rights) r ⌝ }
 {
     let mut place = 0;
     while place < lefts.len() {
@@ -156,7 +157,7 @@ pub fn check(
     lefts: &[u64],
     rights: &[u64],
 ) -> Answer
-    ensures { λ r. ⌜ Checked (offerOf states letters finals (now (rows .entry)) x y (now (lefts .entry)) (now (rights .entry))) r ⌝ }
+    ensures { λ r. ⌜ Checked (offerIn states letters finals rows x y lefts rights) r ⌝ }
 {
     let test = check_test(states, letters, finals, rows, x, y, lefts, rights);
     if let Verdict::Against(number) = test {

@@ -1,4 +1,4 @@
--- Document 01's examples of numbers, computed by the definitions.
+-- The scope's examples of numbers, computed by the definitions.
 use Prim.Native.Nat.{_-_, _^_}
 use mathlib.Core.List.{[], _∷_}
 use mathlib.Core.Path.{_≡_, refl}

@@ -7,28 +7,12 @@ use native.Mathlib.Decide.{ℕ-discrete}
 use native.Mathlib.Omega.{arith}
 use lib.ListN.{length, drop, getD}
 use Rattle.verdict.specs.declared.Verdict.the-variants.{Fine, Against}
+use Rattle.verdict.proofs.Ordered.{apart}
 use Rattle.numbers.specs.declared.Number.the-variants.{Fault}
 use Rattle.numbers.specs.Numbers.{byteTest, Form, whole, faulty, more, groups, placed, numberAt}
+use Rattle.numbers.specs.Faults.{EndsEarly, BadByte, needless, tenth, BadlyWritten}
 use Rattle.numbers.proofs.Groups.{faulty-whole, fine-when, against-zero, against-tenth, groups-none, groups-bad, groups-more, groups-cases}
 use Rattle.numbers.proofs.RoundTrip.{fault-value}
-
--- the data ends before the last byte: fewer than ten bytes are left, from byte number i on, and each says that another follows
-pub record EndsEarly (i : ℕ) (bs : List ℕ) : Type 0 where
-  pub few : i + length bs < 10
-  pub go-on : (j : ℕ) → j < length bs → 128 ≤ getD bs j 0
-
--- a byte that document 01 speaks against: a group of 0 after another group, or a tenth byte other than 01
-pub data BadByte : ℕ → ℕ → Type 0 where
-  needless : {i : ℕ} → 0 < i → BadByte i 0
-  tenth : {b : ℕ} → (b ≡ 1 → ⊥) → BadByte 9 b
-
--- a number badly written: after bytes that say that another follows, one of the first ten is bad
-pub record BadlyWritten (i : ℕ) (bs : List ℕ) : Type 0 where
-  pub j : ℕ
-  pub there : j < length bs
-  pub among : i + j < 10
-  pub go-on : (m : ℕ) → m < j → 128 ≤ getD bs m 0
-  pub bad : BadByte (i + j) (getD bs j 0)
 
 -- ---- one byte
 
@@ -38,9 +22,6 @@ goes-fine i b n l = fine-when i b (λ z. absurd (omega arith)) (λ k. absurd (om
 bad-against : {i b : ℕ} → BadByte i b → byteTest i b ≡ Against 21
 bad-against (needless {i} h) = against-zero i 0 h refl
 bad-against (tenth {b} h) = against-tenth 9 b (omega arith) h
-
-fine-against : {w : ℕ} → Fine ≡ Against w → ⊥
-fine-against h = let z : _≡_ {A = ℕ} 0 1 = cc in omega arith
 
 record Spoken (i b w : ℕ) : Type 0 where
   number : w ≡ 21
@@ -53,7 +34,7 @@ against-bad i b {w} n h = go (ℕ-discrete b 0) (ℕ-discrete i 0) (ℕ-discrete
     spoken p = let e : Against 21 ≡ Against w = sym (bad-against p) ∙ h in record { number = let z : w ≡ 21 = cc in z; bad = p }
 
     fine : (b ≡ 0 → i ≡ 0) → (9 ≤ i → b ≡ 1) → Spoken i b w
-    fine f t = absurd (fine-against (sym (fine-when i b f t) ∙ h))
+    fine f t = apart (fine-when i b f t) h
 
     go : Dec (b ≡ 0) → Dec (i ≡ 0) → Dec (b ≡ 1) → Dec (i ≡ 9) → Spoken i b w
     go (yes z) (no e) d f = spoken (rw z (needless {i = i} (omega arith)))

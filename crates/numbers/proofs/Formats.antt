@@ -34,7 +34,7 @@ held test at (Value x to) {v} {next} h = go (test x) refl h
 
 -- ---- reading what was written
 
-behind : (s : List ℕ) (at : ℕ) (a t : List ℕ) → drop at s ≡ a ++ t → drop (at + length a) s ≡ t
+pub behind : (s : List ℕ) (at : ℕ) (a t : List ℕ) → drop at s ≡ a ++ t → drop (at + length a) s ≡ t
 behind s at a t e = sym (drop-drop (length a) at s) ∙ ap (drop (length a)) e ∙ drop-append-seam a t
 
 pub reading-after-write : (f : Format) (vs s : List ℕ) (at : ℕ) (t : List ℕ) → drop at s ≡ encodeAll vs ++ t → Fits f vs → reading f s at ≡ got vs (at + length (encodeAll vs))
@@ -124,20 +124,24 @@ whole-file f s us to l r =
     let b : s ≡ encodeAll us = r .bytes ∙ ap (λ (t : List ℕ). encodeAll us ++ t) (drop-of-length-le s l) ∙ append-nil (encodeAll us) in
     record { fits = r .fits; bytes = b; takes-all = omega (arith, r .after, ap length b) }
 
--- an accepted file is the bytes of its numbers, which fit
-pub file-write-after-read : (f : Format) (s vs : List ℕ) (end : ℕ) → AreBytes s → fileReading f s ≡ got vs end → IsFile f vs s end
+-- an accepted file was read to its end
+pub file-got : (f : Format) (s vs : List ℕ) (end : ℕ) → fileReading f s ≡ got vs end → (reading f s 0 ≡ got vs end) × (length s ≤ end)
 unfolding fileReading
-file-write-after-read f s vs end a h = go (reading f s 0) refl h
+file-got f s vs end h = go (reading f s 0) refl h
   where
-    go : (r : Reading) → reading f s 0 ≡ r → noTail s r ≡ got vs end → IsFile f vs s end
+    go : (r : Reading) → reading f s 0 ≡ r → noTail s r ≡ got vs end → (reading f s 0 ≡ got vs end) × (length s ≤ end)
     go (refused w p) e h = absurd (refused-got h)
     go (got us to) e h =
         elim (decLt to (length s)) [
           | yes l ↦ absurd (refused-got (simp (lt-ltb to (length s) l) at h))
           | no l ↦
-              let m : length s ≤ to = omega arith in
-              let q : got us to ≡ got vs end = simp (le-ltb to (length s) m) at h in
-              let x : vs ≡ us = cc in
+              let q : got us to ≡ got vs end = simp (le-ltb to (length s) (omega arith)) at h in
               let y : end ≡ to = cc in
-              rw (x, y) (whole-file f s us to m (write-after-reading f s 0 us to a e))
+              (e ∙ q, omega arith)
         ]
+
+-- it is the bytes of its numbers, which fit
+pub file-write-after-read : (f : Format) (s vs : List ℕ) (end : ℕ) → AreBytes s → fileReading f s ≡ got vs end → IsFile f vs s end
+file-write-after-read f s vs end a h =
+    let (e, l) = file-got f s vs end h in
+    whole-file f s vs end l (write-after-reading f s 0 vs end a e)

@@ -6,7 +6,6 @@ pub mod TenBytes
 pub mod Examples
 pub mod ReaderLoop
 pub mod WriterLoops
-pub mod Puts
 pub mod ListLoops
 pub mod Formats
 pub mod Parts

@@ -1,14 +1,15 @@
--- Several numbers of one kind, and what follows them: how they are read, what fits them, and their bytes.
+-- A format and what follows it, and several numbers of one kind: how they are read, what fits them, and their bytes.
 use Prim.Native.Nat.{ℕ, zero, suc, _-_, _<_, _≤_}
 use mathlib.Core.List.{List, [], _∷_, _++_, append-assoc}
 use mathlib.Core.Path.{_≡_, refl, sym, ap, _∙_}
 use native.Mathlib.Omega.{arith}
 use lib.ListN.{length, take, drop}
 use Rattle.verdict.specs.declared.Verdict.{Verdict}
+use Rattle.verdict.specs.declared.Verdict.the-variants.{Fine, Against}
 use Rattle.numbers.specs.declared.Number.{Number}
 use Rattle.numbers.specs.declared.Number.the-variants.{Value, Fault}
 use Rattle.numbers.specs.Numbers.{encode, numberAt}
-use Rattle.numbers.specs.Format.{Format, ended, item, many, Reading, got, refused, heldTo, orRefused, before, reading, encodeAll, Fits}
+use Rattle.numbers.specs.Format.{Format, ended, item, gate, many, Reading, got, refused, heldTo, orRefused, unlessRefused, before, reading, encodeAll, Fits}
 use Rattle.numbers.proofs.Formats.{refused-got}
 
 pub many-none : (test : ℕ → Verdict) (f : Format) → many 0 test f ≡ f
@@ -38,29 +39,52 @@ pub none-before : (r : Reading) → r ≡ beforeAll [] r
 none-before (got vs n) = refl
 none-before (refused w p) = refl
 
-module _ (f : Format) (s : List ℕ) where
-  abbrev rest-after : List ℕ → ℕ → Reading
-  rest-after us next = beforeAll us (reading f s next)
+-- one format and then another, which may depend on the numbers of the first
+unfoldable pub followed : Format → (List ℕ → Format) → Format
+followed ended more = more []
+followed (item test rest) more = item test (λ v. followed (rest v) (λ us. more (v ∷ us)))
+followed (gate verdict rest) more = gate verdict (followed rest more)
 
-  one-before-all : (v : ℕ) (us : List ℕ) (r : Reading) → before v (beforeAll us r) ≡ beforeAll (v ∷ us) r
-  one-before-all v us (got vs n) = refl
-  one-before-all v us (refused w p) = refl
+pub many-followed : (m : ℕ) (test : ℕ → Verdict) (f g : Format) → many m test (followed f (λ us. g)) ≡ followed (many m test f) (λ us. g)
+unfolding many followed
+many-followed zero test f g = refl
+many-followed (suc m) test f g = ap (λ (h : Format). item test (λ v. h)) (many-followed m test f g)
 
-  then-before : (v : ℕ) (r : Reading) → before v (thenReading r rest-after) ≡ thenReading (before v r) rest-after
-  then-before v (got us next) = one-before-all v us (reading f s next)
-  then-before v (refused w p) = refl
+abbrev pub goingOn : (List ℕ → Format) → List ℕ → List ℕ → ℕ → Reading
+goingOn more s us next = beforeAll us (reading (more us) s next)
 
-  then-held : (n : Number) (a b : Format) → ((next : ℕ) → reading a s next ≡ thenReading (reading b s next) rest-after)
-      → orRefused n (λ v next. before v (reading a s next)) ≡ thenReading (orRefused n (λ v next. before v (reading b s next))) rest-after
-  then-held (Fault w p) a b h = refl
-  then-held (Value v next) a b h = ap (before v) (h next) ∙ then-before v (reading b s next)
+pub one-before-all : (v : ℕ) (us : List ℕ) (r : Reading) → before v (beforeAll us r) ≡ beforeAll (v ∷ us) r
+one-before-all v us (got vs n) = refl
+one-before-all v us (refused w p) = refl
+
+module _ (s : List ℕ) where
+  then-before : (more : List ℕ → Format) (v : ℕ) (r : Reading) → before v (thenReading r (goingOn (λ us. more (v ∷ us)) s)) ≡ thenReading (before v r) (goingOn more s)
+  then-before more v (got us next) = one-before-all v us (reading (more (v ∷ us)) s next)
+  then-before more v (refused w p) = refl
+
+  then-held : (n : Number) (rest : ℕ → Format) (more : List ℕ → Format)
+      → ((v next : ℕ) → reading (followed (rest v) (λ us. more (v ∷ us))) s next ≡ thenReading (reading (rest v) s next) (goingOn (λ us. more (v ∷ us)) s))
+      → orRefused n (λ v next. before v (reading (followed (rest v) (λ us. more (v ∷ us))) s next)) ≡ thenReading (orRefused n (λ v next. before v (reading (rest v) s next))) (goingOn more s)
+  then-held (Fault w p) rest more h = refl
+  then-held (Value v next) rest more h = ap (before v) (h v next) ∙ then-before more v (reading (rest v) s next)
+
+  then-ruled : (u : Verdict) (at : ℕ) (r : Reading) (go-on : List ℕ → ℕ → Reading) → unlessRefused u at (thenReading r go-on) ≡ thenReading (unlessRefused u at r) go-on
+  then-ruled Fine at r go-on = refl
+  then-ruled (Against w) at r go-on = refl
+
+-- reading the two is reading the first, and going on from its end
+pub reading-followed : (f : Format) (more : List ℕ → Format) (s : List ℕ) (at : ℕ) → reading (followed f more) s at ≡ thenReading (reading f s at) (goingOn more s)
+unfolding followed reading
+reading-followed ended more s at = none-before (reading (more []) s at)
+reading-followed (item test rest) more s at =
+    then-held s (heldTo test at (numberAt s at)) rest more (λ v next. reading-followed (rest v) (λ us. more (v ∷ us)) s next)
+reading-followed (gate verdict rest) more s at =
+    ap (unlessRefused verdict at) (reading-followed rest more s at) ∙ then-ruled s verdict at (reading rest s at) (goingOn more s)
 
 pub reading-many : (m : ℕ) (test : ℕ → Verdict) (f : Format) (s : List ℕ) (at : ℕ)
-    → reading (many m test f) s at ≡ thenReading (reading (many m test ended) s at) (λ us next. beforeAll us (reading f s next))
-unfolding many reading
-reading-many zero test f s at = none-before (reading f s at)
-reading-many (suc m) test f s at =
-    then-held f s (heldTo test at (numberAt s at)) (many m test f) (many m test ended) (λ next. reading-many m test f s next)
+    → reading (many m test f) s at ≡ thenReading (reading (many m test ended) s at) (goingOn (λ us. f) s)
+unfolding followed
+reading-many m test f s at = ap (λ (g : Format). reading g s at) (many-followed m test ended f) ∙ reading-followed (many m test ended) (λ us. f) s at
 
 -- ---- how many were read
 

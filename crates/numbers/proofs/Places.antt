@@ -1,6 +1,7 @@
 -- The first fault by place, for every format: the numbers before the place are right, and what stands there is what is refused.
-use Prim.Native.Nat.{ℕ, zero, suc, _+_, _^_, _<_, _≤_}
+use Prim.Native.Nat.{ℕ, zero, suc, _+_, _≤_}
 use mathlib.Core.List.{List, [], _∷_, _++_, append-assoc}
+use mathlib.Core.Logic.{_↔_}
 use mathlib.Core.Path.{_≡_, refl, sym, ap, _∙_}
 use native.Mathlib.Decide.{decLt}
 use native.Mathlib.Omega.{arith}
@@ -12,31 +13,11 @@ use Rattle.numbers.specs.declared.Number.{Number}
 use Rattle.numbers.specs.declared.Number.the-variants.{Value, Fault}
 use Rattle.numbers.specs.Numbers.{encode, numberAt, AreBytes}
 use Rattle.numbers.specs.Format.{Format, ended, item, gate, many, Reading, got, refused, ruled, heldTo, orRefused, unlessRefused, before, reading, noTail, fileReading, encodeAll, Fits}
-use Rattle.numbers.proofs.RoundTrip.{Found, write-after-read}
+use Rattle.numbers.specs.Faults.{After, here, taken, through, StoppedBy, by-form, by-range, by-gate, by-tail, Stops}
+use Rattle.numbers.proofs.RoundTrip.{Found, read-after-write, write-after-read}
 use Rattle.numbers.proofs.Faults.{fault-is}
-use Rattle.numbers.proofs.Formats.{refused-got, ReadAs, write-after-reading}
-
--- what is left of a format behind some numbers that it takes
-pub data After : Format → List ℕ → Format → Type 0 where
-  here : {f : Format} → After f [] f
-  taken : {test : ℕ → Verdict} {rest : ℕ → Format} {v : ℕ} {us : List ℕ} {g : Format} → v < 2 ^ 64 → test v ≡ Fine → After (rest v) us g → After (item test rest) (v ∷ us) g
-  through : {verdict : Verdict} {f : Format} {us : List ℕ} {g : Format} → verdict ≡ Fine → After f us g → After (gate verdict f) us g
-
--- why reading stops at a place: a number badly formed, a number out of range, a verdict given there, or bytes after the last number
-pub data StoppedBy (s : List ℕ) (w place : ℕ) : Format → Type 0 where
-  by-form : {test : ℕ → Verdict} {rest : ℕ → Format} → numberAt s place ≡ Fault w place → StoppedBy s w place (item test rest)
-  by-range : {test : ℕ → Verdict} {rest : ℕ → Format} {v next : ℕ} → numberAt s place ≡ Value v next → test v ≡ Against w → StoppedBy s w place (item test rest)
-  by-gate : {verdict : Verdict} {rest : Format} → verdict ≡ Against w → StoppedBy s w place (gate verdict rest)
-  by-tail : w ≡ 22 → place < length s → StoppedBy s w place ended
-
--- from place at on
-pub record Stops (f : Format) (s : List ℕ) (at w place : ℕ) : Type 0 where
-  pub us : List ℕ
-  pub left : Format
-  pub follows : After f us left
-  pub bytes : drop at s ≡ encodeAll us ++ drop place s
-  pub placed : place ≡ at + length (encodeAll us)
-  pub stopped : StoppedBy s w place left
+use Rattle.numbers.proofs.Formats.{refused-got, behind as behind-first, ReadAs, write-after-reading}
+use Rattle.numbers.proofs.Parts.{beforeAll, none-before, one-before-all}
 
 stops-here : (f : Format) (s : List ℕ) (at : ℕ) {w place : ℕ} → place ≡ at → StoppedBy s w place f → Stops f s at w place
 unfolding encodeAll
@@ -124,11 +105,38 @@ after-many (suc m) test f (taken {v = v} l q h) = one-more v (after-many m test 
     one-more v among = among
     one-more v (behind ws vs e n h) = behind (v ∷ ws) vs (ap (λ (l : List ℕ). v ∷ l) e) (ap suc n) h
 
--- ---- THE FIRST FAULT BY PLACE DECIDES
+-- ---- where all before a place is right, what stands there decides
 
-pub first-fault : (f : Format) (s : List ℕ) (w place : ℕ) → AreBytes s → fileReading f s ≡ refused w place → Stops f s 0 w place
+reading-behind : (s : List ℕ) {f : Format} {us : List ℕ} {g : Format} → After f us g → (at : ℕ) (t : List ℕ) → drop at s ≡ encodeAll us ++ t
+    → reading f s at ≡ beforeAll us (reading g s (at + length (encodeAll us)))
+unfolding reading encodeAll
+reading-behind s {f} here at t e = none-before (reading f s at) ∙ ap (λ (n : ℕ). beforeAll [] (reading f s n)) (omega arith)
+reading-behind s (taken {v = v} {us = us} {g = g} l q h) at t e =
+    let d : drop at s ≡ encode v ++ (encodeAll us ++ t) = e ∙ append-assoc (encode v) (encodeAll us) t in
+    let n : at + length (encode v) + length (encodeAll us) ≡ at + length (encode v ++ encodeAll us) = omega (arith, length-append (encode v) (encodeAll us)) in
+    simp (read-after-write s at v (encodeAll us ++ t) l d, q)
+    (ap (before v) (reading-behind s h (at + length (encode v)) t (behind-first s at (encode v) (encodeAll us ++ t) d))
+    ∙ one-before-all v us (reading g s (at + length (encode v) + length (encodeAll us)))
+    ∙ ap (λ (m : ℕ). beforeAll (v ∷ us) (reading g s m)) n)
+reading-behind s (through q h) at t e = rw q (reading-behind s h at t e)
+
+stopped-there : (s us : List ℕ) {g : Format} {w place : ℕ} → StoppedBy s w place g → noTail s (beforeAll us (reading g s place)) ≡ refused w place
+unfolding reading
+stopped-there s us (by-form h) = rw h
+stopped-there s us (by-range h q) = simp (h, q)
+stopped-there s us (by-gate h) = rw h
+stopped-there s us {place = place} (by-tail q h) = rw (lt-ltb place (length s) h, q)
+
+faulty-there : (f : Format) (s : List ℕ) (w place : ℕ) → Stops f s 0 w place → fileReading f s ≡ refused w place
 unfolding fileReading
-first-fault f s w place a h = go (reading f s 0) refl h
+faulty-there f s w place r =
+    let e : 0 + length (encodeAll (r .us)) ≡ place = sym (r .placed) in
+    ap (noTail s) (reading-behind s (r .follows) 0 (drop place s) (r .bytes) ∙ ap (λ (n : ℕ). beforeAll (r .us) (reading (r .left) s n)) e)
+    ∙ stopped-there s (r .us) (r .stopped)
+
+faulty-first : (f : Format) (s : List ℕ) (w place : ℕ) → AreBytes s → fileReading f s ≡ refused w place → Stops f s 0 w place
+unfolding fileReading
+faulty-first f s w place a h = go (reading f s 0) refl h
   where
     go : (r : Reading) → reading f s 0 ≡ r → noTail s r ≡ refused w place → Stops f s 0 w place
     go (refused w′ p′) e h = let (i, j) = refused-is h in stops f s 0 w place a (e ∙ ap (refused w′) j ∙ ap (λ (x : ℕ). refused x place) i)
@@ -147,3 +155,7 @@ first-fault f s w place a h = go (reading f s 0) refl h
               }
           | no l ↦ let m : length s ≤ to = omega arith in absurd (refused-got (sym (simp (le-ltb to (length s) m) at h)))
         ]
+
+-- THE FIRST FAULT BY PLACE DECIDES: a file is refused exactly where reading stops, with all numbers before it right
+pub first-fault : (f : Format) (s : List ℕ) (w place : ℕ) → AreBytes s → (fileReading f s ≡ refused w place) ↔ Stops f s 0 w place
+first-fault f s w place a = (faulty-first f s w place a, faulty-there f s w place)

@@ -10,7 +10,7 @@ use Rattle.numbers.specs.declared.Number.{Number}
 use Rattle.numbers.specs.declared.Number.the-variants.{Value, Fault}
 use Rattle.numbers.specs.Numbers.{numberAt}
 use Rattle.numbers.specs.Format.{Format, ended, item, gate, many, Reading, got, refused, ruled, heldTo, orRefused, unlessRefused, before, reading, noTail, fileReading}
-use Rattle.numbers.proofs.Parts.{thenReading, beforeAll, none-before, reading-many, reading-ended}
+use Rattle.numbers.proofs.Parts.{thenReading, beforeAll, goingOn, followed, none-before, reading-followed, reading-many, reading-ended}
 
 -- ---- a number read and then held to a test
 
@@ -55,18 +55,17 @@ module _ {file : Format} {s us : List ℕ} {at : ℕ} where
     pub reached-item : {x : Number} {v next : ℕ} → x ≡ heldTo test at (numberAt s at) → x ≡ Value v next → Reached file s (us ++ (v ∷ [])) (rest v) next
     reached-item {v} {next} e q = record { same = g .same ∙ ap (beforeAll us) (item-taken test rest s at (sym e ∙ q)) ∙ all-before us v (reading (rest v) s next) }
 
-    pub stopped-item : {x : Number} {w p : ℕ} → x ≡ heldTo test at (numberAt s at) → x ≡ Fault w p → fileReading file s ≡ refused w p
-    unfolding fileReading
-    stopped-item e q = ap (noTail s) (g .same ∙ ap (beforeAll us) (item-stopped test rest s at (sym e ∙ q)))
+    pub stopped-item : {x : Number} {w p : ℕ} → x ≡ heldTo test at (numberAt s at) → x ≡ Fault w p → reading file s 0 ≡ refused w p
+    stopped-item e q = g .same ∙ ap (beforeAll us) (item-stopped test rest s at (sym e ∙ q))
 
   module _ {verdict : Verdict} {f : Format} (g : Reached file s us (gate verdict f) at) where
     pub reached-gate : verdict ≡ Fine → Reached file s us f at
     unfolding reading
     reached-gate q = record { same = g .same ∙ ap (λ (x : Verdict). beforeAll us (unlessRefused x at (reading f s at))) q }
 
-    pub stopped-gate : {w : ℕ} → verdict ≡ Against w → fileReading file s ≡ refused w at
-    unfolding fileReading reading
-    stopped-gate q = ap (noTail s) (g .same ∙ ap (λ (x : Verdict). beforeAll us (unlessRefused x at (reading f s at))) q)
+    pub stopped-gate : {w : ℕ} → verdict ≡ Against w → reading file s 0 ≡ refused w at
+    unfolding reading
+    stopped-gate q = g .same ∙ ap (λ (x : Verdict). beforeAll us (unlessRefused x at (reading f s at))) q
 
   module _ (m : ℕ) (test : ℕ → Verdict) (f : Format) (g : Reached file s us (many m test f) at) where
     pub reached-many : {ws : List ℕ} {next : ℕ} → reading (many m test ended) s at ≡ got ws next → Reached file s (us ++ ws) f next
@@ -74,19 +73,35 @@ module _ {file : Format} {s us : List ℕ} {at : ℕ} where
         record {
           same =
               g .same
-              ∙ ap (beforeAll us) (reading-many m test f s at ∙ ap (λ (r : Reading). thenReading r (λ vs to. beforeAll vs (reading f s to))) q)
+              ∙ ap (beforeAll us) (reading-many m test f s at ∙ ap (λ (r : Reading). thenReading r (goingOn (λ vs. f) s)) q)
               ∙ all-all us ws (reading f s next);
         }
 
-    pub stopped-many : {w p : ℕ} → reading (many m test ended) s at ≡ refused w p → fileReading file s ≡ refused w p
-    unfolding fileReading
-    stopped-many q = ap (noTail s) (g .same ∙ ap (beforeAll us) (reading-many m test f s at ∙ ap (λ (r : Reading). thenReading r (λ vs to. beforeAll vs (reading f s to))) q))
+    pub stopped-many : {w p : ℕ} → reading (many m test ended) s at ≡ refused w p → reading file s 0 ≡ refused w p
+    stopped-many q = g .same ∙ ap (beforeAll us) (reading-many m test f s at ∙ ap (λ (r : Reading). thenReading r (goingOn (λ vs. f) s)) q)
 
-  module _ (g : Reached file s us ended at) where
-    pub stopped-tail : at < length s → fileReading file s ≡ refused 22 at
-    unfolding fileReading
-    stopped-tail h = ap (noTail s) (g .same ∙ ap (beforeAll us) (reading-ended s at)) ∙ rw (lt-ltb at (length s) h)
+  pub reached-end : Reached file s us ended at → reading file s 0 ≡ got us at
+  reached-end g = g .same ∙ ap (beforeAll us) (reading-ended s at) ∙ ap (λ (l : List ℕ). got l at) (append-nil us)
 
-    pub reached-end : length s ≤ at → fileReading file s ≡ got us at
-    unfolding fileReading
-    reached-end h = ap (noTail s) (g .same ∙ ap (beforeAll us) (reading-ended s at)) ∙ rw (le-ltb at (length s) h, append-nil)
+-- what a part of a file gave, where the file goes on behind it
+module _ (part : Format) (more : List ℕ → Format) (s : List ℕ) where
+  pub reached-part : {us : List ℕ} {at : ℕ} → reading part s 0 ≡ got us at → Reached (followed part more) s us (more us) at
+  reached-part q = record { same = reading-followed part more s 0 ∙ ap (λ (r : Reading). thenReading r (goingOn more s)) q }
+
+  pub stopped-part : {w p : ℕ} → reading part s 0 ≡ refused w p → reading (followed part more) s 0 ≡ refused w p
+  stopped-part q = reading-followed part more s 0 ∙ ap (λ (r : Reading). thenReading r (goingOn more s)) q
+
+-- ---- the whole file: what was refused stays so, and bytes after the last number are TAIL
+
+module _ (file : Format) (s : List ℕ) where
+  pub file-stopped : {w p : ℕ} → reading file s 0 ≡ refused w p → fileReading file s ≡ refused w p
+  unfolding fileReading
+  file-stopped q = ap (noTail s) q
+
+  pub file-tail : {us : List ℕ} {at : ℕ} → reading file s 0 ≡ got us at → at < length s → fileReading file s ≡ refused 22 at
+  unfolding fileReading
+  file-tail {at = at} q h = ap (noTail s) q ∙ rw (lt-ltb at (length s) h)
+
+  pub file-whole : {us : List ℕ} {at : ℕ} → reading file s 0 ≡ got us at → length s ≤ at → fileReading file s ≡ got us at
+  unfolding fileReading
+  file-whole {at = at} q h = ap (noTail s) q ∙ rw (le-ltb at (length s) h)

@@ -1,4 +1,4 @@
--- A file of numbers (document 01, 'Pattern file'): each is judged by form, then by range, when it has been read; the first fault by place decides.
+-- A file of numbers (the scope, §9): each is judged by form, then by range, when it has been read; the first fault by place decides.
 --   Format              what a file is made of; what comes next may depend on the numbers read so far
 --   many m test rest    m numbers held to one test, and then the rest
 --   reading f s at      what reading a format from a place on gives: the numbers and the place after them, or a refusal and its place

@@ -1,17 +1,14 @@
--- One number in groups of seven bits (document 01, 'Pattern file'). The laws that say what each word means stand in proofs/.
+-- One number in groups of seven bits (the scope, §9). The laws that say what each word means stand in proofs/.
 --   encode v           the bytes of v: its groups, lowest first (`encode-last`, `encode-more`)
 --   byteTest i b       what is against b as byte number i, from 0, of a number
 --   groups i bytes     what the bytes of a number are from its byte number i on: a `whole` value, or a `faulty` number
 --   numberAt bytes at  what reading at a place finds (`read-after-write`, `write-after-read`, `cut-exactly`, `long-exactly`)
 --   AreBytes bytes     each of them is a byte
---   Stored ..          bytes were put from a place on, and all else is as it was (`stored-parts`, `stored-determined`)
 use Prim.Native.Nat.{ℕ, zero, suc, _+_, _*_, _-_, _/_, _%_, _<_}
 use mathlib.Core.Bool.{cond, not, _||_}
 use mathlib.Core.List.{List, [], _∷_}
-use mathlib.Core.Path.{_≡_}
 use lib.Dec.{ltb, eqb}
-use lib.ListN.{length, drop, getD}
-use lib.Seq.{sets}
+use lib.ListN.{drop, getD}
 use Rattle.verdict.specs.declared.Verdict.{Verdict}
 use Rattle.verdict.specs.declared.Verdict.the-variants.{Fine, Against}
 use Rattle.verdict.specs.Tests.{need, inOrder}
@@ -60,8 +57,3 @@ numberAt bytes at = placed at (groups 0 (drop at bytes))
 
 pub record AreBytes (bytes : List ℕ) : Type 0 where
   pub each : (i : ℕ) → getD bytes i 0 < 256
-
--- next is the place after them
-pub record Stored (old : List ℕ) (at : ℕ) (bytes : List ℕ) (next : ℕ) (new : List ℕ) : Type 0 where
-  pub after : next ≡ at + length bytes
-  pub stored : new ≡ sets old at bytes

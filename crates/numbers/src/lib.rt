@@ -4,7 +4,8 @@ use verdict::need;
 ghost use mathlib.Core.Path.{_≡_};
 ghost use Prim.Native.Nat.{_+_, _≤_, _<_};
 ghost use lib.ListN.{length};
-ghost use Rattle.numbers.specs.Numbers.{numberAt, byteTest, encode, Stored};
+ghost use Rattle.lent.specs.Lent.{before, Puts};
+ghost use Rattle.numbers.specs.Numbers.{numberAt, byteTest, encode};
 ghost use Rattle.numbers.specs.Format as Format;
 ghost use Rattle.numbers.specs.Format.{encodeAll};
 
@@ -32,7 +33,7 @@ fn byte_test(i: usize, b: u64) -> Verdict
 }
 
 pub fn read(bytes: &[u8], at: usize) -> Number
-    ensures { λ r. ⌜ r ≡ numberAt (now (bytes .entry)) at ⌝ }
+    ensures { λ r. ⌜ r ≡ numberAt (before bytes) at ⌝ }
 {
     let mut value: u64 = 0;
     let mut weight: u64 = 1;
@@ -90,7 +91,7 @@ fn low(x: u64) -> u8
 // Puts v's bytes from a place on, and returns the place after them.
 pub fn write(out: &mut [u8], at: usize, v: u64) -> usize
     requires { ⌜ at + length (encode v) ≤ length (now out) ⌝ }
-    ensures { λ r. ⌜ Stored (now (out .entry)) at (encode v) r (now (out .exit)) ⌝ }
+    ensures { λ r. ⌜ Puts out at (encode v) r ⌝ }
 {
     let mut rest = v;
     let mut place = at;
@@ -105,7 +106,7 @@ pub fn write(out: &mut [u8], at: usize, v: u64) -> usize
 
 // How many bytes a list of numbers takes.
 pub fn size_all(list: &[u64]) -> usize
-    ensures { λ r. ⌜ r ≡ length (encodeAll (now (list .entry))) ⌝ }
+    ensures { λ r. ⌜ r ≡ length (encodeAll (before list)) ⌝ }
 {
     let mut total: usize = 0;
     let mut i: usize = 0;
@@ -119,7 +120,7 @@ pub fn size_all(list: &[u64]) -> usize
 // Puts the bytes of a list of numbers from a place on, and returns the place after them.
 pub fn write_all(out: &mut [u8], at: usize, list: &[u64]) -> usize
     requires { ⌜ at + length (encodeAll (now list)) ≤ length (now out) ⌝ }
-    ensures { λ r. ⌜ Stored (now (out .entry)) at (encodeAll (now (list .entry))) r (now (out .exit)) ⌝ }
+    ensures { λ r. ⌜ Puts out at (encodeAll (before list)) r ⌝ }
 {
     let mut place = at;
     let mut i: usize = 0;

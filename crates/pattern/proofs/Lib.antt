@@ -1,5 +1,6 @@
 -- Laws that belong to no one function.
 pub mod Validity
+pub mod Refusals
 pub mod Steps
 pub mod Picking
 pub mod Words

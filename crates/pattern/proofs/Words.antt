@@ -1,17 +1,18 @@
--- The laws of words: one letter more, the language of a union, and the set that a word leads to. Assumes nothing.
+-- The laws of words: one letter more, the language of a union and of the empty set, and the set that a word leads to. Assumes nothing.
 use mathlib.Core.Path.{_≡_, refl, ap, _∙_}
-use mathlib.Core.Bool.{_||_}
+use mathlib.Core.Bool.{false, _||_}
 use mathlib.Core.List.{List, [], _∷_, _++_}
-use Prim.Native.Nat.{ℕ, zero, suc, _+_, _≤_, _<_}
+use Prim.Native.Nat.{ℕ, zero, suc, _+_, _<_}
 use native.Mathlib.Nat.{le-of-suc-le-suc, not-suc-le-zero}
 use native.Mathlib.Omega.{arith}
-use lib.ListN.{length, getD, drop}
+use lib.ListN.{length, getD}
 use lib.Bits.{bitOr}
+use Rattle.sets.specs.Sets.{meets}
 use Rattle.sets.proofs.Meeting.{meets-union}
 use Rattle.pattern.specs.Pattern.{Pattern}
 use Rattle.pattern.specs.Language.{next, reach, accepts, Over}
 use Rattle.pattern.specs.Language.Over.{empty, letter}
-use Rattle.pattern.proofs.Steps.{next-union}
+use Rattle.pattern.proofs.Steps.{next-union, next-empty}
 
 module _ (P : Pattern) where
   pub reach-snoc : (x : ℕ) (w : List ℕ) (a : ℕ) → reach P x (w ++ (a ∷ [])) ≡ next P (reach P x w) a
@@ -33,6 +34,11 @@ module _ (P : Pattern) where
   unfolding accepts reach
   accepts-union x y [] = meets-union x y (P .finals)
   accepts-union x y (a ∷ w) = ap (λ (s : ℕ). accepts P s w) (next-union P a x y) ∙ accepts-union (next P x a) (next P y a) w
+
+  pub empty-accepts-nothing : (w : List ℕ) → accepts P 0 w ≡ false
+  unfolding accepts reach meets
+  empty-accepts-nothing [] = refl
+  empty-accepts-nothing (a ∷ w) = ap (λ (s : ℕ). accepts P s w) (next-empty P a) ∙ empty-accepts-nothing w
 
 pub over-snoc : {k a : ℕ} {w : List ℕ} → Over k w → a < k → Over k (w ++ (a ∷ []))
 over-snoc empty h = letter h empty

@@ -1,6 +1,6 @@
--- The tests of a pattern, each with document 01's number. A call makes them in the order 10, 11, .., 12, with its own tests between.
+-- The tests of a pattern, each with the scope's number (§7). A call makes them in the order 10, 11, .., 12, with its own tests between.
 use mathlib.Core.Bool.{_&&_}
-use mathlib.Core.List.{List, [], _∷_}
+use mathlib.Core.List.{[], _∷_}
 use Prim.Native.Nat.{ℕ, _*_, _^_}
 use lib.ListN.{length}
 use lib.Dec.{leb, ltb, eqb}
@@ -19,6 +19,10 @@ tableTest n k count = need (eqb count (n * k)) 11
 -- 12 BAD-SET: the mask has no bit n or above
 unfoldable pub setTest : ℕ → ℕ → Verdict
 setTest n mask = need (ltb mask (2 ^ n)) 12
+
+-- 14 NO-ROOM: a buffer of so many places has room for so many values
+unfoldable pub spaceTest : ℕ → ℕ → Verdict
+spaceTest places count = need (leb count places) 14
 
 -- 10 and 11, which every call looks at first
 unfoldable pub shapeTest : Pattern → Verdict

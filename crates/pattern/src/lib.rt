@@ -1,10 +1,10 @@
 // Patterns: their tests, their successor sets, and the judging of one sequence.
 ghost use mathlib.Core.Path.{_≡_};
-ghost use mathlib.Core.List.{List};
 ghost use Prim.Native.Nat.{ℕ, _*_, _≤_, _<_};
 ghost use lib.ListN.{length};
+ghost use Rattle.lent.specs.Lent.{before};
 ghost use Rattle.verdict.specs.Tests.{each};
-ghost use Rattle.pattern.specs.Pattern.{Sized, patternOf};
+ghost use Rattle.pattern.specs.Pattern.{Sized, patternIn};
 ghost use Rattle.pattern.specs.Tests.{sizeTest, tableTest, setTest, shapeTest, masksTest, patternTest};
 ghost use Rattle.pattern.specs.Language.{reach, Over};
 ghost use Rattle.pattern.specs.Language;
@@ -49,7 +49,7 @@ pub fn set_test(states: usize, mask: u64) -> Verdict
 
 // BAD-SET: each mask of a list.
 pub fn sets_test(states: usize, masks: &[u64]) -> Verdict
-    ensures { λ r. ⌜ r ≡ each (setTest states) (now (masks .entry)) ⌝ }
+    ensures { λ r. ⌜ r ≡ each (setTest states) (before masks) ⌝ }
 {
     let mut i = 0;
     while i < masks.len() {
@@ -64,7 +64,7 @@ pub fn sets_test(states: usize, masks: &[u64]) -> Verdict
 
 // BAD-SIZE and BAD-TABLE, which every call looks at first.
 pub fn shape_test(states: usize, letters: usize, rows: &[u64]) -> Verdict
-    ensures { λ r. ⌜ ((finals : ℕ) → r ≡ shapeTest (patternOf states letters finals (now (rows .entry)))) ⌝ }
+    ensures { λ r. ⌜ ((finals : ℕ) → r ≡ shapeTest (patternIn states letters finals rows)) ⌝ }
 {
     let size = size_test(64, states);
     let Verdict::Fine = size else {
@@ -79,7 +79,7 @@ pub fn shape_test(states: usize, letters: usize, rows: &[u64]) -> Verdict
 
 // BAD-SET for the pattern's own masks.
 pub fn masks_test(states: usize, finals: u64, rows: &[u64]) -> Verdict
-    ensures { λ r. ⌜ ((letters : ℕ) → r ≡ masksTest (patternOf states letters finals (now (rows .entry)))) ⌝ }
+    ensures { λ r. ⌜ ((letters : ℕ) → r ≡ masksTest (patternIn states letters finals rows)) ⌝ }
 {
     let test = set_test(states, finals);
     let Verdict::Fine = test else {
@@ -90,7 +90,7 @@ pub fn masks_test(states: usize, finals: u64, rows: &[u64]) -> Verdict
 
 // Judges a pattern: what is against it, if anything.
 pub fn pattern_test(states: usize, letters: usize, finals: u64, rows: &[u64]) -> Verdict
-    ensures { λ r. ⌜ r ≡ patternTest (patternOf states letters finals (now (rows .entry))) ⌝ }
+    ensures { λ r. ⌜ r ≡ patternTest (patternIn states letters finals rows) ⌝ }
 {
     let shape = shape_test(states, letters, rows);
     let Verdict::Fine = shape else {
@@ -104,7 +104,7 @@ pub fn next(states: usize, letters: usize, rows: &[u64], set: u64, letter: usize
     requires { ⌜ states ≤ 64 ⌝ }
     requires { ⌜ length (now rows) ≡ states * letters ⌝ }
     requires { ⌜ letter < letters ⌝ }
-    ensures { λ r. ⌜ ((finals : ℕ) → r ≡ Language.next (patternOf states letters finals (now (rows .entry))) set letter) ⌝ }
+    ensures { λ r. ⌜ ((finals : ℕ) → r ≡ Language.next (patternIn states letters finals rows) set letter) ⌝ }
 {
     let none = States::empty();
     let mut reached = none.mask;
@@ -129,7 +129,7 @@ fn letter_test(letters: usize, letter: u8) -> Verdict
 
 // BAD-LETTER: each letter of a sequence.
 fn letters_test(letters: usize, sequence: &[u8]) -> Verdict
-    ensures { λ r. ⌜ r ≡ each (letterTest letters) (now (sequence .entry)) ⌝ }
+    ensures { λ r. ⌜ r ≡ each (letterTest letters) (before sequence) ⌝ }
 {
     let mut i = 0;
     while i < sequence.len() {
@@ -148,7 +148,7 @@ fn wide(x: u8) -> usize
     x as usize
 }
 
-// The tests of `judge`, in document 01's order.
+// The tests of `judge`, in the scope's order.
 fn judge_test(
     states: usize,
     letters: usize,
@@ -157,7 +157,7 @@ fn judge_test(
     set: u64,
     sequence: &[u8],
 ) -> Verdict
-    ensures { λ r. ⌜ r ≡ judgeTest (patternOf states letters finals (now (rows .entry))) set (now (sequence .entry)) ⌝ }
+    ensures { λ r. ⌜ r ≡ judgeTest (patternIn states letters finals rows) set (before sequence) ⌝ }
 {
     let pattern = pattern_test(states, letters, finals, rows);
     let Verdict::Fine = pattern else {
@@ -175,13 +175,13 @@ fn reached(states: usize, letters: usize, rows: &[u64], set: u64, sequence: &[u8
     requires { ⌜ states ≤ 64 ⌝ }
     requires { ⌜ length (now rows) ≡ states * letters ⌝ }
     requires { ⌜ Over letters (now sequence) ⌝ }
-    ensures { λ r. ⌜ ((finals : ℕ) → r ≡ reach (patternOf states letters finals (now (rows .entry))) set (now (sequence .entry))) ⌝ }
+    ensures { λ r. ⌜ ((finals : ℕ) → r ≡ reach (patternIn states letters finals rows) set (before sequence)) ⌝ }
 {
     let mut at = set;
-    let mut i = 0;
-    while i < sequence.len() {
-        at = next(states, letters, rows, at, wide(sequence[i]));
-        i += 1;
+    let mut read = 0;
+    while read < sequence.len() {
+        at = next(states, letters, rows, at, wide(sequence[read]));
+        read += 1;
     }
     at
 }
@@ -195,7 +195,7 @@ pub fn judge(
     set: u64,
     sequence: &[u8],
 ) -> Judged
-    ensures { λ r. ⌜ r ≡ judged (patternOf states letters finals (now (rows .entry))) set (now (sequence .entry)) ⌝ }
+    ensures { λ r. ⌜ r ≡ judged (patternIn states letters finals rows) set (before sequence) ⌝ }
 {
     let test = judge_test(states, letters, finals, rows, set, sequence);
     if let Verdict::Against(number) = test {

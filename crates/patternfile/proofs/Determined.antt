@@ -2,14 +2,14 @@
 use Prim.Native.Nat.{ℕ, _*_}
 use mathlib.Core.List.{List, [], _∷_, _++_}
 use mathlib.Core.Path.{_≡_, sym, ap, _∙_}
-use native.Mathlib.Omega.{arith}
 use lib.ListN.{length, take, drop}
-use lib.Seq.{sets, take-append-seam, drop-append-seam, take-at, drop-at}
-use Rattle.verdict.specs.declared.Verdict.the-variants.{Fine, Against}
+use lib.Seq.{take-append-seam, drop-append-seam, take-at, drop-at}
+use Rattle.verdict.proofs.Ordered.{apart, one-number}
+use Rattle.lent.specs.Lent.{lay}
+use Rattle.lent.proofs.Putting.{put-determined}
 use Rattle.pattern.specs.Pattern.{Pattern}
 use Rattle.numbers.specs.Format.{got, refused}
 use Rattle.numbers.proofs.Formats.{refused-got}
-use Rattle.numbers.proofs.Puts.{stored-determined}
 use Rattle.patternfile.specs.declared.PatternRead.{PatternRead}
 use Rattle.patternfile.specs.declared.PatternRead.the-variants as Read
 use Rattle.patternfile.specs.declared.Written.{Written}
@@ -38,7 +38,7 @@ done-same {s} {old} {n} {k} {f} {x} {y} {n′} {k′} {f′} {x′} {y′} p q =
     let (rows, starts) = same-rows (p .rows) (q .rows) x y x′ y′ l er in
     let ex : x ≡ x′ = cc in
     let ey : y ≡ y′ = cc in
-    (rw (en, ek, ef, ex, ey), p .written ∙ ap (sets old 0) rows ∙ sym (q .written))
+    (rw (en, ek, ef, ex, ey), p .written ∙ ap (λ (l : List ℕ). lay l old) rows ∙ sym (q .written))
 
 pub reader-determined : (s old : List ℕ) (r r′ : PatternRead) (new new′ : List ℕ) → Reads s old r new → Reads s old r′ new′ → (r ≡ r′) × (new ≡ new′)
 reader-determined s old (Read.Done n k f x y) (Read.Done n′ k′ f′ x′ y′) new new′ p q = done-same p q
@@ -50,16 +50,10 @@ reader-determined s old (Read.Refused w place) (Read.Refused w′ place′) new 
     let ep : place ≡ place′ = cc in
     (rw (ew, ep), p .unchanged ∙ sym (q .unchanged))
 
-fine-against : {w : ℕ} → Fine ≡ Against w → ⊥
-fine-against h = let z : _≡_ {A = ℕ} 0 1 = cc in omega arith
-
 pub writer-determined : (P : Pattern) (x y : ℕ) (old : List ℕ) (r r′ : Written) (new new′ : List ℕ) → Writes P x y old r new → Writes P x y old r′ new′ → (r ≡ r′) × (new ≡ new′)
 writer-determined P x y old (Write.Done c) (Write.Done c′) new new′ p q =
-    let (count, bytes) = stored-determined (p .written) (q .written) in
+    let (count, bytes) = put-determined (p .written) (q .written) in
     (ap Write.Done count, bytes)
-writer-determined P x y old (Write.Done c) (Write.Refused w) new new′ p q = absurd (fine-against (sym (p .allowed) ∙ q .against))
-writer-determined P x y old (Write.Refused w) (Write.Done c) new new′ p q = absurd (fine-against (sym (q .allowed) ∙ p .against))
-writer-determined P x y old (Write.Refused w) (Write.Refused w′) new new′ p q =
-    let e : Against w ≡ Against w′ = sym (p .against) ∙ q .against in
-    let ew : w ≡ w′ = cc in
-    (ap Write.Refused ew, p .unchanged ∙ sym (q .unchanged))
+writer-determined P x y old (Write.Done c) (Write.Refused w) new new′ p q = apart (p .allowed) (q .against)
+writer-determined P x y old (Write.Refused w) (Write.Done c) new new′ p q = apart (q .allowed) (p .against)
+writer-determined P x y old (Write.Refused w) (Write.Refused w′) new new′ p q = (ap Write.Refused (one-number (p .against) (q .against)), p .unchanged ∙ sym (q .unchanged))

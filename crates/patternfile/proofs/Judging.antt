@@ -1,36 +1,26 @@
--- The first pass over a file: each way out of it is what reading the whole format gives.
+-- The first pass over a file: each way out of it is what reading the pattern's numbers gives.
 use Prim.Native.Nat.{ℕ, _*_, _<_, _≤_}
 use mathlib.Core.List.{List, [], _∷_, _++_, append-assoc}
-use mathlib.Core.Path.{_≡_, sym, ap, _∙_, subst}
+use mathlib.Core.Logic.{inl}
+use mathlib.Core.Path.{_≡_, refl, sym, ap, _∙_, subst}
+use native.Mathlib.Omega.{arith}
 use lib.ListN.{length}
-use borrow.Author.Tests.{le-leb, lt-leb}
-use Rattle.verdict.specs.declared.Verdict.the-variants.{Fine, Against}
-use Rattle.verdict.proofs.Ordered.{need-holds, need-fails}
 use Rattle.pattern.specs.Pattern.{Sized}
 use Rattle.pattern.specs.Tests.{sizeTest, setTest}
-use Rattle.pattern.proofs.Validity.{sized-fine}
+use Rattle.pattern.proofs.Validity.{sized-fine, space-fine}
+use Rattle.pattern.proofs.Refusals.{space-line}
 use Rattle.numbers.specs.declared.Number.{Number}
 use Rattle.numbers.specs.declared.Number.the-variants.{Value, Fault}
-use Rattle.numbers.specs.Numbers.{numberAt, AreBytes}
-use Rattle.numbers.specs.Format.{ended, item, many, Reading, got, refused, heldTo, reading, fileReading}
+use Rattle.numbers.specs.Numbers.{numberAt}
+use Rattle.numbers.specs.Format.{ended, item, many, Reading, got, refused, heldTo, reading}
 use Rattle.numbers.proofs.RoundTrip.{fault-value}
-use Rattle.numbers.proofs.Formats.{held, file-write-after-read}
+use Rattle.numbers.proofs.Formats.{held}
 use Rattle.numbers.proofs.Parts.{many-length}
 use Rattle.numbers.proofs.Steps.{Reached, reached-first, reached-item, reached-gate, reached-many, reached-end, stopped-gate, stopped-many}
-use Rattle.patternfile.specs.declared.PatternRead.{PatternRead}
-use Rattle.patternfile.specs.declared.PatternRead.the-variants.{Done}
-use Rattle.patternfile.specs.PatternFile.{roomTest, startsFormat, afterLetters, patternFormat}
-use Rattle.patternfile.specs.Inner.{Judges, passed, refusedBy}
-
--- ---- the buffer lent
-
-pub room-enough : (room count : ℕ) → count ≤ room → roomTest room count ≡ Fine
-unfolding roomTest
-room-enough room count h = need-holds _ 14 (le-leb count room h)
-
-room-short : (room count : ℕ) → room < count → roomTest room count ≡ Against 14
-unfolding roomTest
-room-short room count h = need-fails _ 14 (lt-leb count room h)
+use Rattle.patternfile.specs.declared.PatternPart.{PatternPart}
+use Rattle.patternfile.specs.declared.PatternPart.the-variants.{Whole}
+use Rattle.patternfile.specs.PatternFile.{startsThen, setsThen, afterLetters, patternThen, patternFormat}
+use Rattle.patternfile.specs.Parts.{Judges, passed, stoppedBy}
 
 -- ---- numbers passed over
 
@@ -54,11 +44,11 @@ rowsFrom s n k at = numbersIn (reading (many (n * k) (setTest n) ended) s at)
 
 module _ (room : ℕ) (s : List ℕ) where
   -- a fault goes straight up
-  pub goes-up : {r : PatternRead} {x : Number} {w p : ℕ} → r ≡ refusedBy x → x ≡ Fault w p → fileReading (patternFormat room) s ≡ refused w p → Judges s room r
-  goes-up e q h = subst (Judges s room) (sym (e ∙ ap refusedBy q)) h
+  pub goes-up : {r : PatternPart} {x : Number} {w p : ℕ} → r ≡ stoppedBy x → x ≡ Fault w p → reading (patternFormat room) s 0 ≡ refused w p → Judges s room r
+  goes-up e q h = subst (Judges s room) (sym (e ∙ ap stoppedBy q)) h
 
-  pub to-states : Reached (patternFormat room) s [] (item (sizeTest 64) (λ n. item (sizeTest 32) (λ k. afterLetters room n k))) 0
-  unfolding patternFormat
+  pub to-states : Reached (patternFormat room) s [] (item (sizeTest 64) (λ n. item (sizeTest 32) (λ k. afterLetters room n k ended))) 0
+  unfolding patternFormat patternThen
   to-states = reached-first (patternFormat room) s
 
   module _ {a b : Number} {n k at₁ at₂ : ℕ} (ea : a ≡ heldTo (sizeTest 64) 0 (numberAt s 0)) (qa : a ≡ Value n at₁) (eb : b ≡ heldTo (sizeTest 32) at₁ (numberAt s at₁)) (qb : b ≡ Value k at₂)
@@ -66,23 +56,23 @@ module _ (room : ℕ) (s : List ℕ) where
     pub sizes-fine : Sized states letters
     sizes-fine = rw (es, el) (sized-fine (held (sizeTest 64) 0 (numberAt s 0) (sym ea ∙ qa) .range) (held (sizeTest 32) at₁ (numberAt s at₁) (sym eb ∙ qb) .range))
 
-    pub to-room : Reached (patternFormat room) s (states ∷ letters ∷ []) (afterLetters room states letters) at₂
+    pub to-room : Reached (patternFormat room) s (states ∷ letters ∷ []) (afterLetters room states letters ended) at₂
     to-room = rw (es, el) (reached-item (reached-item to-states ea qa) eb qb)
 
-  module _ {us : List ℕ} (n k : ℕ) {at count : ℕ} (g : Reached (patternFormat room) s us (afterLetters room n k) at) (c : count ≡ n * k) where
-    pub stop-room : room < count → fileReading (patternFormat room) s ≡ refused 14 at
-    stop-room h = stopped-gate g (room-short room (n * k) (rw c at h))
+  module _ {us : List ℕ} (n k : ℕ) {at count : ℕ} (g : Reached (patternFormat room) s us (afterLetters room n k ended) at) (c : count ≡ n * k) where
+    pub stop-room : room < count → reading (patternFormat room) s 0 ≡ refused 14 at
+    stop-room h = stopped-gate g (space-line room (n * k) .against 14 .1 (inl (λ l. omega (arith, c), refl)))
 
-    pub to-finals : count ≤ room → Reached (patternFormat room) s us (item (setTest n) (λ finals. many (n * k) (setTest n) (startsFormat n))) at
-    to-finals h = reached-gate g (room-enough room (n * k) (rw c at h))
+    pub to-finals : count ≤ room → Reached (patternFormat room) s us (setsThen n k ended) at
+    to-finals h = reached-gate g (space-fine room (n * k) .1 (rw c at h))
 
-  module _ {us : List ℕ} (n k : ℕ) {at count : ℕ} (g : Reached (patternFormat room) s us (many (n * k) (setTest n) (startsFormat n)) at) (c : count ≡ n * k)
+  module _ {us : List ℕ} (n k : ℕ) {at count : ℕ} (g : Reached (patternFormat room) s us (many (n * k) (setTest n) (startsThen n ended)) at) (c : count ≡ n * k)
       {d : Number} (ed : d ≡ passed count (reading (many count (setTest n) ended) s at)) where
     passed-all : d ≡ passed (n * k) (reading (many (n * k) (setTest n) ended) s at)
     passed-all = ed ∙ ap (λ (m : ℕ). passed m (reading (many m (setTest n) ended) s at)) c
 
-    pub stop-rows : {w p : ℕ} → d ≡ Fault w p → fileReading (patternFormat room) s ≡ refused w p
-    stop-rows q = stopped-many (n * k) (setTest n) (startsFormat n) g (passed-refused (n * k) _ passed-all q)
+    pub stop-rows : {w p : ℕ} → d ≡ Fault w p → reading (patternFormat room) s 0 ≡ refused w p
+    stop-rows q = stopped-many (n * k) (setTest n) (startsThen n ended) g (passed-refused (n * k) _ passed-all q)
 
     module _ {m at-x : ℕ} (qd : d ≡ Value m at-x) where
       rows-read : reading (many (n * k) (setTest n) ended) s at ≡ got (rowsFrom s n k at) at-x
@@ -91,12 +81,10 @@ module _ (room : ℕ) (s : List ℕ) where
       pub rows-tabled : length (rowsFrom s n k at) ≡ n * k
       rows-tabled = many-length (n * k) (setTest n) s at (rowsFrom s n k at) at-x rows-read
 
-      pub to-x : Reached (patternFormat room) s (us ++ rowsFrom s n k at) (startsFormat n) at-x
-      to-x = reached-many (n * k) (setTest n) (startsFormat n) g rows-read
+      pub to-x : Reached (patternFormat room) s (us ++ rowsFrom s n k at) (startsThen n ended) at-x
+      to-x = reached-many (n * k) (setTest n) (startsThen n ended) g rows-read
 
   pub all-read : {n k finals x y end : ℕ} (rows : List ℕ) → Reached (patternFormat room) s (n ∷ k ∷ finals ∷ ((rows ++ (x ∷ [])) ++ (y ∷ []))) ended end
-      → length rows ≡ n * k → AreBytes s → length s ≤ end → Judges s room (Done n k finals x y)
-  all-read {n} {k} {finals} {x} {y} {end} rows g t are h =
-      let numbers = n ∷ k ∷ finals ∷ (rows ++ (x ∷ y ∷ [])) in
-      let e : fileReading (patternFormat room) s ≡ got numbers end = reached-end g h ∙ ap (λ (l : List ℕ). got (n ∷ k ∷ finals ∷ l) end) (append-assoc rows (x ∷ []) (y ∷ [])) in
-      (rows, record { tabled = t; read = e ∙ ap (got numbers) (file-write-after-read (patternFormat room) s numbers end are e .takes-all) })
+      → length rows ≡ n * k → Judges s room (Whole n k finals x y end)
+  all-read {n} {k} {finals} {x} {y} {end} rows g t =
+      (rows, record { tabled = t; read = reached-end g ∙ ap (λ (l : List ℕ). got (n ∷ k ∷ finals ∷ l) end) (append-assoc rows (x ∷ []) (y ∷ [])) })

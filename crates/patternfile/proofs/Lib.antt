@@ -4,6 +4,7 @@ pub mod Judging
 pub mod Contents
 pub mod Filling
 pub mod Storing
+pub mod Refusals
 pub mod Determined
 pub mod RoundTrip
 pub mod Places

@@ -10,11 +10,11 @@ use lib.Seq.{take-all, length-take-le}
 use borrow.Author.Tests.{lt-ltb}
 use Rattle.sets.specs.Sets.{Good}
 use Rattle.pattern.specs.Pattern.{Pattern, Valid, patternOf}
-use Rattle.pattern.specs.Tests.{sizeTest, setTest}
+use Rattle.pattern.specs.Tests.{sizeTest, setTest, spaceTest}
 use Rattle.pattern.proofs.Validity.{size-fine}
 use Rattle.verdict.specs.declared.Verdict.the-variants.{Fine}
 use Rattle.numbers.specs.Numbers.{encode, encodeIn, numberAt, AreBytes}
-use Rattle.numbers.specs.Format.{item, many, Reading, got, refused, unlessRefused, reading, noTail, fileReading, encodeAll, Fits}
+use Rattle.numbers.specs.Format.{ended, item, many, Reading, got, refused, unlessRefused, reading, noTail, fileReading, encodeAll, Fits}
 use Rattle.numbers.proofs.Groups.{one-byte}
 use Rattle.numbers.proofs.RoundTrip.{Found, write-after-read}
 use Rattle.numbers.proofs.TenBytes.{encode-ten}
@@ -22,14 +22,14 @@ use Rattle.numbers.proofs.ListLoops.{all-ten}
 use Rattle.numbers.proofs.Formats.{Held, ReadAs, write-after-reading, file-write-after-read}
 use Rattle.numbers.proofs.Parts.{FitsMany, fits-many, encode-append}
 use Rattle.numbers.proofs.Reach.{Short, short-more, short-many, item-reach, reach}
-use Rattle.patternfile.specs.PatternFile.{numbersOf, roomTest, startsFormat, afterLetters, patternFormat}
+use Rattle.patternfile.specs.PatternFile.{numbersOf, fileBytes, startsThen, setsThen, afterLetters, patternThen, patternFormat}
 use Rattle.patternfile.specs.Reader.{FileOf}
-use Rattle.patternfile.specs.Writer.{fileBytes}
+use Rattle.patternfile.proofs.Contents.{contents-fit}
 use Rattle.patternfile.proofs.RoundTrip.{file-of}
 
 -- ---- no file is longer
 
-two-starts : (n : ℕ) (us : List ℕ) → Fits (startsFormat n) us → length us ≡ 2
+two-starts : (n : ℕ) (us : List ℕ) → Fits (startsThen n ended) us → length us ≡ 2
 unfolding Fits
 two-starts n [] h = absurd h
 two-starts n (x ∷ []) h = absurd (h .2)
@@ -37,10 +37,10 @@ two-starts n (x ∷ y ∷ []) h = refl
 two-starts n (x ∷ y ∷ z ∷ us) h = absurd (h .2 .2)
 
 -- n and k one byte each, ten bytes for each set
-at-most : (n k f : ℕ) (us : List ℕ) → sizeTest 64 n ≡ Fine → sizeTest 32 k ≡ Fine → Fits (many (n * k) (setTest n) (startsFormat n)) us → length (encodeAll (n ∷ k ∷ f ∷ us)) ≤ 20512
+at-most : (n k f : ℕ) (us : List ℕ) → sizeTest 64 n ≡ Fine → sizeTest 32 k ≡ Fine → Fits (many (n * k) (setTest n) (startsThen n ended)) us → length (encodeAll (n ∷ k ∷ f ∷ us)) ≤ 20512
 unfolding encodeAll
 at-most n k f us p q h =
-    let m : FitsMany (n * k) (setTest n) (startsFormat n) us = fits-many (n * k) (setTest n) (startsFormat n) us h in
+    let m : FitsMany (n * k) (setTest n) (startsThen n ended) us = fits-many (n * k) (setTest n) (startsThen n ended) us h in
     let two : length (drop (n * k) us) ≡ 2 = two-starts n (drop (n * k) us) (m .rest) in
     let most : n * k ≤ 64 * 32 = mul-le-mul (size-fine 64 n .0 p .1) (size-fine 32 k .0 q .1) in
     let one : n < 128 = omega (arith, size-fine 64 n .0 p .1) in
@@ -60,11 +60,16 @@ at-most n k f us p q h =
     )
 
 fits-short : (room : ℕ) (vs : List ℕ) → Fits (patternFormat room) vs → length (encodeAll vs) ≤ 20512
-unfolding patternFormat Fits
+unfolding patternFormat patternThen Fits
 fits-short room [] h = absurd h
 fits-short room (n ∷ []) h = absurd (h .2)
 fits-short room (n ∷ k ∷ []) h = absurd (h .2 .2 .1)
 fits-short room (n ∷ k ∷ f ∷ us) h = at-most n k f us (h .1) (h .2 .1) (h .2 .2 .1 .2)
+
+-- neither the file of a valid pattern with two sets of its states, nor anything that is read as a file
+pub file-short : (P : Pattern) (x y : ℕ) → Valid P → Good (P .states) x → Good (P .states) y → length (fileBytes P x y) ≤ 20512
+unfolding fileBytes
+file-short P x y v gx gy = let n = P .states * P .letters in fits-short n (numbersOf P x y) (contents-fit n P x y v gx gy (omega arith))
 
 pub no-longer : {room : ℕ} {s : List ℕ} {P : Pattern} {x y : ℕ} → AreBytes s → FileOf room s P x y → length s ≤ 20512
 no-longer {room} {s} {P} {x} {y} are f =
@@ -116,29 +121,29 @@ one-byte-on most s at v next m are h =
     let b : v < 128 = omega (arith, size-fine most v .0 (h .range) .1) in
     omega (arith, f .after, ap length (one-byte v b))
 
-sets-short : (n k : ℕ) → n ≤ 64 → k ≤ 32 → Short 2051 (item (setTest n) (λ finals. many (n * k) (setTest n) (startsFormat n)))
+sets-short : (n k : ℕ) → n ≤ 64 → k ≤ 32 → Short 2051 (setsThen n k ended)
 unfolding Short
 sets-short n k a b =
     let p : n * k ≤ 64 * 32 = mul-le-mul a b in
-    let two : Short 2 (startsFormat n) = λ x q y r. tt in
-    λ f q. short-more (n * k + 2) 2050 (many (n * k) (setTest n) (startsFormat n)) (omega arith) (short-many (n * k) 2 (setTest n) (startsFormat n) two)
+    let two : Short 2 (startsThen n ended) = λ x q y r. tt in
+    λ f q. short-more (n * k + 2) 2050 (many (n * k) (setTest n) (startsThen n ended)) (omega arith) (short-many (n * k) 2 (setTest n) (startsThen n ended) two)
 
 module _ (room : ℕ) (s : List ℕ) (are : AreBytes s) where
-  sets-reach : (n k at : ℕ) → at ≡ 2 → n ≤ 64 → k ≤ 32 → reading (afterLetters room n k) (take 20513 s) at ≡ reading (afterLetters room n k) s at
+  sets-reach : (n k at : ℕ) → at ≡ 2 → n ≤ 64 → k ≤ 32 → reading (afterLetters room n k ended) (take 20513 s) at ≡ reading (afterLetters room n k ended) s at
   unfolding reading
   sets-reach n k at e p q =
-      ap (unlessRefused (roomTest room (n * k)) at)
-      (reach (item (setTest n) (λ finals. many (n * k) (setTest n) (startsFormat n))) 2051 s at 20513 are (sets-short n k p q) (omega arith))
+      ap (unlessRefused (spaceTest room (n * k)) at)
+      (reach (setsThen n k ended) 2051 s at 20513 are (sets-short n k p q) (omega arith))
 
-  letters-reach : (n at : ℕ) → at ≡ 1 → n ≤ 64 → reading (item (sizeTest 32) (λ k. afterLetters room n k)) (take 20513 s) at ≡ reading (item (sizeTest 32) (λ k. afterLetters room n k)) s at
+  letters-reach : (n at : ℕ) → at ≡ 1 → n ≤ 64 → reading (item (sizeTest 32) (λ k. afterLetters room n k ended)) (take 20513 s) at ≡ reading (item (sizeTest 32) (λ k. afterLetters room n k ended)) s at
   letters-reach n at e p =
-      item-reach (sizeTest 32) (λ k. afterLetters room n k) s at 20513 (omega arith)
+      item-reach (sizeTest 32) (λ k. afterLetters room n k ended) s at 20513 (omega arith)
       (λ k next h. sets-reach n k next (omega (arith, one-byte-on 32 s at k next (omega arith) are h)) p (size-fine 32 k .0 (h .range) .1))
 
   pattern-reach : reading (patternFormat room) (take 20513 s) 0 ≡ reading (patternFormat room) s 0
-  unfolding patternFormat
+  unfolding patternFormat patternThen
   pattern-reach =
-      item-reach (sizeTest 64) (λ n. item (sizeTest 32) (λ k. afterLetters room n k)) s 0 20513 (omega arith)
+      item-reach (sizeTest 64) (λ n. item (sizeTest 32) (λ k. afterLetters room n k ended)) s 0 20513 (omega arith)
       (λ n next h. letters-reach n next (omega (arith, one-byte-on 64 s 0 n next (omega arith) are h)) (size-fine 64 n .0 (h .range) .1))
 
   pub cap-changes-nothing : fileReading (patternFormat room) (take 20513 s) ≡ fileReading (patternFormat room) s

@@ -10,7 +10,7 @@ use Rattle.numbers.specs.Numbers.{numberAt}
 use Rattle.numbers.specs.Format.{Format, ended, item, many, Reading, got, refused, before, heldTo, reading}
 use Rattle.numbers.proofs.Parts.{many-none, many-more, reading-ended}
 use Rattle.numbers.proofs.Steps.{item-taken, item-stopped}
-use Rattle.patternfile.specs.Inner.{passed}
+use Rattle.patternfile.specs.Parts.{passed}
 
 pub record Passing (test : ℕ → Verdict) (s : List ℕ) (at count left place : ℕ) : Type 0 where
   pub same : passed count (reading (many count test ended) s at) ≡ passed count (reading (many left test ended) s place)

@@ -1,8 +1,7 @@
--- Where and why the reader refuses: each refusal by its line of document 01, with its place.
+-- Where and why the reader refuses: each refusal by its line of the scope, with its place.
 use Prim.Native.Nat.{ℕ, _+_, _*_, _<_, _≤_}
-use mathlib.Core.Bool.{Bool, true, false}
 use mathlib.Core.List.{List, [], _∷_, _++_, append-assoc}
-use mathlib.Core.Logic.{_⊎_, inl, inr}
+use mathlib.Core.Logic.{_↔_, _⊎_, inl, inr}
 use mathlib.Core.Path.{_≡_, refl, sym, ap, _∙_, subst}
 use native.Mathlib.Decide.{decLe}
 use native.Mathlib.Nat.{zero-add}
@@ -12,61 +11,44 @@ use lib.ListN.{length, take, drop}
 use lib.Seq.{take-at}
 use borrow.Author.Tests.{leb-false}
 use Rattle.verdict.specs.declared.Verdict.the-variants.{Fine, Against}
-use Rattle.verdict.specs.Tests.{need}
+use Rattle.verdict.proofs.Ordered.{apart, need-against}
 use Rattle.sets.specs.Sets.{Good}
-use Rattle.pattern.specs.Pattern.{Pattern, patternOf}
-use Rattle.pattern.specs.Tests.{sizeTest, setTest}
+use Rattle.pattern.specs.Pattern.{patternOf}
+use Rattle.pattern.specs.Tests.{sizeTest, setTest, spaceTest}
 use Rattle.pattern.proofs.Validity.{size-fine, set-fine}
 use Rattle.numbers.specs.declared.Number.the-variants.{Value, Fault}
 use Rattle.numbers.specs.Numbers.{encode, numberAt, AreBytes}
-use Rattle.numbers.specs.Format.{Format, ended, item, many, encodeAll, Fits}
+use Rattle.numbers.specs.Format.{Format, ended, item, refused, fileReading, encodeAll, Fits}
+use Rattle.numbers.specs.Faults.{After, here, taken, through, StoppedBy, by-form, by-range, by-gate, by-tail, Stops}
 use Rattle.numbers.proofs.Groups.{one-byte}
 use Rattle.numbers.proofs.RoundTrip.{read-after-write}
-use Rattle.numbers.proofs.Faults.{EndsEarly, BadlyWritten, cut-exactly, long-exactly, fault-is}
-use Rattle.numbers.proofs.Formats.{file-read-after-write}
-use Rattle.numbers.proofs.Places.{After, here, taken, through, StoppedBy, by-form, by-range, by-gate, by-tail, Stops, first-fault, after-fits, AfterMany, among, behind, after-many}
-use Rattle.patternfile.specs.declared.PatternRead.the-variants.{Refused}
-use Rattle.patternfile.specs.PatternFile.{numbersOf, roomTest, startsFormat, afterLetters, patternFormat}
-use Rattle.patternfile.specs.Reader.{FileOf, Reads}
-
--- a refusal of the reader, for a row buffer of so many entries: its number and its place
-pub data RefusedAt (room : ℕ) (s : List ℕ) : ℕ → ℕ → Type 0 where
-  -- 10 BAD-SIZE: n stands at byte 0 and is outside its range, or k at byte 1
-  bad-states : {v next : ℕ} → numberAt s 0 ≡ Value v next → (v < 1) ⊎ (64 < v) → RefusedAt room s 10 0
-  bad-letters : {v next : ℕ} → numberAt s 1 ≡ Value v next → (v < 1) ⊎ (32 < v) → RefusedAt room s 10 1
-  -- 14 NO-ROOM: at the byte after k
-  no-room : {n k : ℕ} → numberAt s 0 ≡ Value n 1 → numberAt s 1 ≡ Value k 2 → room < n * k → RefusedAt room s 14 2
-  -- 12 BAD-SET: at the first byte of a number that has a bit n or above
-  bad-set : {n v next place : ℕ} → numberAt s 0 ≡ Value n 1 → numberAt s place ≡ Value v next → (Good n v → ⊥) → RefusedAt room s 12 place
-  -- 20 CUT, 21 LONG: at the first byte of the number, the data's length if no byte of it came
-  cut : {place : ℕ} → EndsEarly 0 (drop place s) → RefusedAt room s 20 place
-  long : {place : ℕ} → BadlyWritten 0 (drop place s) → RefusedAt room s 21 place
-  -- 22 TAIL: at the first byte behind what is a whole file
-  tail : {place : ℕ} (P : Pattern) (x y : ℕ) → place < length s → FileOf room (take place s) P x y → RefusedAt room s 22 place
+use Rattle.numbers.proofs.Faults.{cut-exactly, long-exactly, fault-is}
+use Rattle.numbers.proofs.Formats.{refused-got, file-read-after-write}
+use Rattle.numbers.proofs.Places.{first-fault, after-fits, AfterMany, among, behind, after-many}
+use Rattle.patternfile.specs.declared.PatternRead.{PatternRead}
+use Rattle.patternfile.specs.declared.PatternRead.the-variants.{Done, Refused}
+use Rattle.patternfile.specs.PatternFile.{numbersOf, startsThen, setsThen, afterLetters, patternThen, patternFormat}
+use Rattle.patternfile.specs.Reader.{Reads}
+use Rattle.patternfile.specs.Refusals.{RefusedAt, bad-states, bad-letters, no-room, bad-set, cut, long, tail}
 
 -- ---- what each test refuses
 
-need-against : (b : Bool) (w : ℕ) {w′ : ℕ} → need b w ≡ Against w′ → (w′ ≡ w) × (b ≡ false)
-unfolding need
-need-against false w h = (cc, refl)
-need-against true w h = let z : _≡_ {A = ℕ} 0 1 = cc in absurd (omega arith)
-
 size-against : (most v : ℕ) {w : ℕ} → sizeTest most v ≡ Against w → (w ≡ 10) × ((v < 1) ⊎ (most < v))
 unfolding sizeTest
-size-against most v h = (need-against _ 10 h .0, outside (decLe 1 v) (decLe v most))
+size-against most v h = (need-against _ 10 h .1, outside (decLe 1 v) (decLe v most))
   where
     outside : Dec (1 ≤ v) → Dec (v ≤ most) → (v < 1) ⊎ (most < v)
     outside (no p) q = inl (omega arith)
     outside (yes p) (no q) = inr (omega arith)
-    outside (yes p) (yes q) = let e : Fine ≡ Against _ = sym (size-fine most v .1 (p, q)) ∙ h in let z : _≡_ {A = ℕ} 0 1 = cc in absurd (omega arith)
+    outside (yes p) (yes q) = apart (size-fine most v .1 (p, q)) h
 
 set-against : (n v : ℕ) {w : ℕ} → setTest n v ≡ Against w → (w ≡ 12) × (Good n v → ⊥)
 unfolding setTest
-set-against n v h = (need-against _ 12 h .0, λ g. let e : Fine ≡ Against _ = sym (set-fine n v .1 g) ∙ h in let z : _≡_ {A = ℕ} 0 1 = cc in omega arith)
+set-against n v h = (need-against _ 12 h .1, λ g. apart (set-fine n v .1 g) h)
 
-room-against : (room count : ℕ) {w : ℕ} → roomTest room count ≡ Against w → (w ≡ 14) × (room < count)
-unfolding roomTest
-room-against room count h = let (i, j) = need-against (leb count room) 14 h in (i, leb-false count room j)
+space-against : (room count : ℕ) {w : ℕ} → spaceTest room count ≡ Against w → (w ≡ 14) × (room < count)
+unfolding spaceTest
+space-against room count h = let (i, j) = need-against (leb count room) 14 h in (j, leb-false count room i)
 
 -- a number badly formed
 form-refused : {room : ℕ} {s : List ℕ} {w place : ℕ} → numberAt s place ≡ Fault w place → RefusedAt room s w place
@@ -140,25 +122,25 @@ in-y : {room : ℕ} {s vs us : List ℕ} {g : Format} {w place n : ℕ} (k f x :
 in-y k f x rows here e l t = at-set (t .states) (t .stopped)
 in-y k f x rows (taken {v = y} a q h) e l t = in-end k f x y rows h e l t
 
-in-starts : {room : ℕ} {s vs us : List ℕ} {g : Format} {w place n : ℕ} (k f : ℕ) (rows : List ℕ) → After (startsFormat n) us g → vs ≡ n ∷ k ∷ f ∷ (rows ++ us) → length rows ≡ n * k
+in-starts : {room : ℕ} {s vs us : List ℕ} {g : Format} {w place n : ℕ} (k f : ℕ) (rows : List ℕ) → After (startsThen n ended) us g → vs ≡ n ∷ k ∷ f ∷ (rows ++ us) → length rows ≡ n * k
     → Where room s vs g w place n → RefusedAt room s w place
 in-starts k f rows here e l t = at-set (t .states) (t .stopped)
 in-starts k f rows (taken {v = x} a q h) e l t = in-y k f x rows h e l t
 
-in-rows : {room : ℕ} {s vs us : List ℕ} {g : Format} {w place n : ℕ} (k f : ℕ) → AfterMany (n * k) (setTest n) (startsFormat n) us g → vs ≡ n ∷ k ∷ f ∷ us → Where room s vs g w place n
+in-rows : {room : ℕ} {s vs us : List ℕ} {g : Format} {w place n : ℕ} (k f : ℕ) → AfterMany (n * k) (setTest n) (startsThen n ended) us g → vs ≡ n ∷ k ∷ f ∷ us → Where room s vs g w place n
     → RefusedAt room s w place
 in-rows k f among e t = at-set (t .states) (t .stopped)
 in-rows {n = n} k f (behind ws vs q l h) e t = in-starts k f ws h (e ∙ ap (λ (us : List ℕ). n ∷ k ∷ f ∷ us) q) l t
 
-in-finals : {room : ℕ} {s vs us : List ℕ} {g : Format} {w place n : ℕ} (k : ℕ) → After (item (setTest n) (λ f. many (n * k) (setTest n) (startsFormat n))) us g → vs ≡ n ∷ k ∷ us
+in-finals : {room : ℕ} {s vs us : List ℕ} {g : Format} {w place n : ℕ} (k : ℕ) → After (setsThen n k ended) us g → vs ≡ n ∷ k ∷ us
     → Where room s vs g w place n → RefusedAt room s w place
 in-finals k here e t = at-set (t .states) (t .stopped)
-in-finals {n = n} k (taken {v = f} l q h) e t = in-rows k f (after-many (n * k) (setTest n) (startsFormat n) h) e t
+in-finals {n = n} k (taken {v = f} l q h) e t = in-rows k f (after-many (n * k) (setTest n) (startsThen n ended) h) e t
 
-at-room : {room : ℕ} {s : List ℕ} {w place : ℕ} (n k : ℕ) → numberAt s 0 ≡ Value n 1 → numberAt s 1 ≡ Value k 2 → place ≡ 2 → StoppedBy s w place (afterLetters room n k) → RefusedAt room s w place
-at-room {room} n k e e′ p (by-gate h) = let (i, j) = room-against room (n * k) h in rw (i, p) (no-room e e′ j)
+at-room : {room : ℕ} {s : List ℕ} {w place : ℕ} (n k : ℕ) → numberAt s 0 ≡ Value n 1 → numberAt s 1 ≡ Value k 2 → place ≡ 2 → StoppedBy s w place (afterLetters room n k ended) → RefusedAt room s w place
+at-room {room} n k e e′ p (by-gate h) = let (i, j) = space-against room (n * k) h in rw (i, p) (no-room e e′ j)
 
-in-room : {room : ℕ} {s vs us : List ℕ} {g : Format} {w place n : ℕ} (k : ℕ) → sizeTest 64 n ≡ Fine → sizeTest 32 k ≡ Fine → After (afterLetters room n k) us g → vs ≡ n ∷ k ∷ us
+in-room : {room : ℕ} {s vs us : List ℕ} {g : Format} {w place n : ℕ} (k : ℕ) → sizeTest 64 n ≡ Fine → sizeTest 32 k ≡ Fine → After (afterLetters room n k ended) us g → vs ≡ n ∷ k ∷ us
     → Where room s vs g w place n → RefusedAt room s w place
 in-room {s = s} {place = place} {n = n} k p q here e t =
     let b : s ≡ encodeAll (n ∷ k ∷ []) ++ drop place s = t .bytes ∙ ap (λ (l : List ℕ). encodeAll l ++ drop place s) e in
@@ -169,7 +151,7 @@ at-letters : {room : ℕ} {s : List ℕ} {w place : ℕ} {rest : ℕ → Format}
 at-letters p (by-form h) = form-refused h
 at-letters {s = s} p (by-range {v = v} h q) = let (i, j) = size-against 32 v q in rw (i, p) (bad-letters (ap (numberAt s) (sym p) ∙ h) j)
 
-in-letters : {room : ℕ} {s vs us : List ℕ} {g : Format} {w place n : ℕ} → sizeTest 64 n ≡ Fine → After (item (sizeTest 32) (λ k. afterLetters room n k)) us g → vs ≡ n ∷ us
+in-letters : {room : ℕ} {s vs us : List ℕ} {g : Format} {w place n : ℕ} → sizeTest 64 n ≡ Fine → After (item (sizeTest 32) (λ k. afterLetters room n k ended)) us g → vs ≡ n ∷ us
     → Where room s vs g w place n → RefusedAt room s w place
 in-letters {s = s} {n = n} p here e t = at-letters (t .placed ∙ ap (λ (l : List ℕ). length (encodeAll l)) e ∙ n-place s n p) (t .stopped)
 in-letters p (taken {v = k} l q h) e t = in-room k p q h e t
@@ -178,16 +160,31 @@ at-states : {room : ℕ} {s : List ℕ} {w place : ℕ} {rest : ℕ → Format} 
 at-states p (by-form h) = form-refused h
 at-states {s = s} p (by-range {v = v} h q) = let (i, j) = size-against 64 v q in rw (i, p) (bad-states (ap (numberAt s) (sym p) ∙ h) j)
 
-in-states : {room : ℕ} {s us : List ℕ} {g : Format} {w place : ℕ} → After (item (sizeTest 64) (λ n. item (sizeTest 32) (λ k. afterLetters room n k))) us g → StoppedBy s w place g
+in-states : {room : ℕ} {s us : List ℕ} {g : Format} {w place : ℕ} → After (item (sizeTest 64) (λ n. item (sizeTest 32) (λ k. afterLetters room n k ended))) us g → StoppedBy s w place g
     → place ≡ length (encodeAll us) → s ≡ encodeAll us ++ drop place s → RefusedAt room s w place
-unfolding patternFormat encodeAll
+unfolding patternFormat patternThen encodeAll
 in-states here st e b = at-states e st
 in-states {s = s} {us = us} {place = place} (taken {v = n} {us = vs} l q h) st e b =
     in-letters q h refl (record { states = n-read s n q vs (drop place s) b; whole = taken l q h; stopped = st; placed = e; bytes = b })
 
--- THE PLACE OF EACH REFUSAL is what document 01 says; the numbers before it are right, by the law `first-fault`
+-- THE PLACE OF EACH REFUSAL is what the scope says; the numbers before it are right, by the law `first-fault`
 pub refusal-place : {s old new : List ℕ} {w place : ℕ} → AreBytes s → Reads s old (Refused w place) new → RefusedAt (length old) s w place
-unfolding patternFormat
+unfolding patternFormat patternThen
 refusal-place {s} {old} {w = w} {place = place} are r =
-    let f : Stops (patternFormat (length old)) s 0 w place = first-fault (patternFormat (length old)) s w place are (r .fault) in
+    let f : Stops (patternFormat (length old)) s 0 w place = first-fault (patternFormat (length old)) s w place are .0 (r .fault) in
     in-states (f .follows) (f .stopped) (f .placed ∙ zero-add _) (f .bytes)
+
+-- and it is refused so exactly where reading stops there
+pub refusal-exactly : (s old : List ℕ) (r : PatternRead) (new : List ℕ) {w place : ℕ} → AreBytes s → Reads s old r new → (r ≡ Refused w place) ↔ Stops (patternFormat (length old)) s 0 w place
+refusal-exactly s old r new {w} {place} are h = (
+  λ q. first-fault (patternFormat (length old)) s w place are .0 (subst (λ (z : PatternRead). Reads s old z new) q h .fault),
+  λ t. there r h (first-fault (patternFormat (length old)) s w place are .1 t),
+)
+  where
+    there : (r : PatternRead) → Reads s old r new → fileReading (patternFormat (length old)) s ≡ refused w place → r ≡ Refused w place
+    there (Done n k f x y) h e = absurd (refused-got (sym e ∙ h .file .read))
+    there (Refused w′ place′) h e =
+        let q : refused w′ place′ ≡ refused w place = sym (h .fault) ∙ e in
+        let i : w′ ≡ w = cc in
+        let j : place′ ≡ place = cc in
+        rw (i, j)

@@ -1,28 +1,25 @@
 -- The two round trips of the pattern file, and what the reader accepts.
-use Prim.Native.Nat.{ℕ, _+_, _*_, _≤_}
+use Prim.Native.Nat.{ℕ, _*_, _≤_}
 use mathlib.Core.List.{List}
 use mathlib.Core.Path.{_≡_, refl, sym, ap, _∙_}
-use native.Mathlib.Nat.{zero-add}
 use native.Mathlib.Omega.{arith}
-use lib.ListN.{length, take, drop}
-use lib.Seq.{sets, sets-eq, take-at}
-use Rattle.verdict.proofs.Ordered.{order-fine}
+use lib.ListN.{length, take}
+use Rattle.lent.specs.Lent.{lay}
+use Rattle.lent.proofs.Laying.{take-lay, lay-at-start}
+use Rattle.lent.proofs.Putting.{put-ending}
 use Rattle.sets.specs.Sets.{Good}
 use Rattle.pattern.specs.Pattern.{Pattern, Valid, patternOf}
-use Rattle.pattern.proofs.Validity.{pattern-valid, set-fine}
 use Rattle.numbers.specs.Numbers.{AreBytes}
 use Rattle.numbers.proofs.Formats.{file-read-after-write}
-use Rattle.numbers.proofs.Puts.{stored-parts}
 use Rattle.patternfile.specs.declared.PatternRead.{PatternRead}
 use Rattle.patternfile.specs.declared.PatternRead.the-variants as Read
 use Rattle.patternfile.specs.declared.Written.{Written}
 use Rattle.patternfile.specs.declared.Written.the-variants as Write
-use Rattle.patternfile.specs.PatternFile.{numbersOf, patternFormat}
+use Rattle.patternfile.specs.PatternFile.{numbersOf, fileBytes, patternFormat}
 use Rattle.patternfile.specs.Reader.{FileOf, ReadDone, Reads}
-use Rattle.patternfile.specs.Writer.{fileBytes, writeTest, WriteDone, Writes}
-use Rattle.patternfile.proofs.Judging.{room-enough}
+use Rattle.patternfile.specs.Writer.{Allowed, WriteDone, Writes}
 use Rattle.patternfile.proofs.Contents.{Contents, contents-fit, file-bytes, accepted-valid}
-use Rattle.patternfile.proofs.Storing.{Allowed, allowed}
+use Rattle.patternfile.proofs.Refusals.{write-fine}
 use Rattle.patternfile.proofs.Determined.{reader-determined, writer-determined}
 
 -- ---- the bytes of a valid pattern with two sets of its states are a file
@@ -34,28 +31,22 @@ file-of room P x y v gx gy enough =
 
 -- what the writer left
 written-bytes : (P : Pattern) (x y : ℕ) (out : List ℕ) (count : ℕ) (out′ : List ℕ) → WriteDone P x y out count out′ → take count out′ ≡ fileBytes P x y
-written-bytes P x y out count out′ w =
-    let h : count ≤ length out = omega (arith, w .written .after, allowed P x y (length out) (w .allowed) .enough) in
-    let c : length (fileBytes P x y) ≡ count = sym (w .written .after ∙ zero-add _) in
-    ap (take count) (stored-parts (w .written) h) ∙ take-at (fileBytes P x y) (drop count out) count c
+written-bytes P x y out count out′ w = put-ending (w .written)
 
 -- READ AFTER WRITE: what was written reads as the same values and rows, and all its bytes are taken
 pub read-after-write : (P : Pattern) (x y : ℕ) (out : List ℕ) (count : ℕ) (out′ : List ℕ) → Writes P x y out (Write.Done count) out′
     → (old : List ℕ) (r : PatternRead) (new : List ℕ) → P .states * P .letters ≤ length old → Reads (take count out′) old r new
-    → (r ≡ Read.Done (P .states) (P .letters) (P .finals) x y) × (new ≡ sets old 0 (P .rows))
+    → (r ≡ Read.Done (P .states) (P .letters) (P .finals) x y) × (new ≡ lay (P .rows) old)
 read-after-write P x y out count out′ w old r new enough q =
-    let a : Allowed P x y (length out) = allowed P x y (length out) (w .allowed) in
+    let a : Allowed P x y (length out) = write-fine P x y (length out) .0 (w .allowed) in
     let f : FileOf (length old) (take count out′) P x y = rw (written-bytes P x y out count out′ w) (file-of (length old) P x y (a .valid) (a .good-x) (a .good-y) enough) in
-    reader-determined (take count out′) old r (Read.Done (P .states) (P .letters) (P .finals) x y) new (sets old 0 (P .rows)) q
+    reader-determined (take count out′) old r (Read.Done (P .states) (P .letters) (P .finals) x y) new (lay (P .rows) old) q
     (record { rows = P .rows; file = record { tabled = f .tabled; read = f .read }; written = refl })
 
 -- ---- what the reader left
 
 pub left-rows : {s old : List ℕ} {n k f x y : ℕ} {new : List ℕ} → AreBytes s → (d : ReadDone s old n k f x y new) → take (n * k) new ≡ d .rows
-left-rows {old = old} {n = n} {k = k} are d =
-    let c : Contents (length old) (patternOf n k _ (d .rows)) _ _ = accepted-valid are (d .file) in
-    let h : 0 + length (d .rows) ≤ length old = omega (arith, c .enough, d .file .tabled) in
-    ap (take (n * k)) (d .written ∙ sets-eq (d .rows) old 0 h) ∙ take-at (d .rows) (drop (0 + length (d .rows)) old) (n * k) (d .file .tabled)
+left-rows {old = old} {n = n} {k = k} are d = ap (take (n * k)) (d .written) ∙ take-lay (d .rows) old (n * k) (d .file .tabled)
 
 -- WHAT THE READER ACCEPTS is a valid pattern, with X and Y sets of its states
 pub read-valid : {s old : List ℕ} {n k f x y : ℕ} {new : List ℕ} → AreBytes s → Reads s old (Read.Done n k f x y) new → Valid (patternOf n k f (take (n * k) new)) × Good n x × Good n y
@@ -64,23 +55,18 @@ read-valid {s} {old} {n} {k} {f} {x} {y} {new} are d =
     (rw (left-rows are d) (c .valid), c .good-x, c .good-y)
 
 -- an accepted file is what the writer writes of it
-writes-back : {room : ℕ} {s : List ℕ} {P : Pattern} {x y : ℕ} → AreBytes s → FileOf room s P x y → (out : List ℕ) → length s ≤ length out → WriteDone P x y out (length s) (sets out 0 s)
-unfolding writeTest fileBytes
+writes-back : {room : ℕ} {s : List ℕ} {P : Pattern} {x y : ℕ} → AreBytes s → FileOf room s P x y → (out : List ℕ) → length s ≤ length out → WriteDone P x y out (length s) (lay s out)
 writes-back {room} {s} {P} {x} {y} are f out l =
     let c : Contents room P x y = accepted-valid are f in
     let b : s ≡ fileBytes P x y = file-bytes are f in
     record {
-      allowed =
-          order-fine _ .1 (
-            pattern-valid P .1 (c .valid),
-            (set-fine (P .states) x .1 (c .good-x), (set-fine (P .states) y .1 (c .good-y), (room-enough (length out) (length (fileBytes P x y)) (rw b at l), tt))),
-          );
-      written = record { after = omega (arith, ap length b); stored = ap (sets out 0) b };
+      allowed = write-fine P x y (length out) .1 (record { valid = c .valid; good-x = c .good-x; good-y = c .good-y; enough = rw b at l });
+      written = record { ends = omega (arith, ap length b); within = l; laid = ap (λ (v : List ℕ). lay v out) b ∙ sym (lay-at-start (fileBytes P x y) out) };
     }
 
 -- WRITE AFTER READ: what was read is written back byte for byte
 pub write-after-read : (s old : List ℕ) (n k f x y : ℕ) (new : List ℕ) → AreBytes s → Reads s old (Read.Done n k f x y) new
     → (out : List ℕ) (r : Written) (out′ : List ℕ) → length s ≤ length out → Writes (patternOf n k f (take (n * k) new)) x y out r out′
-    → (r ≡ Write.Done (length s)) × (out′ ≡ sets out 0 s)
+    → (r ≡ Write.Done (length s)) × (out′ ≡ lay s out)
 write-after-read s old n k f x y new are d out r out′ l q =
-    writer-determined (patternOf n k f (d .rows)) x y out r (Write.Done (length s)) out′ (sets out 0 s) (rw (left-rows are d) at q) (writes-back are (d .file) out l)
+    writer-determined (patternOf n k f (d .rows)) x y out r (Write.Done (length s)) out′ (lay s out) (rw (left-rows are d) at q) (writes-back are (d .file) out l)

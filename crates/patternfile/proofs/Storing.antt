@@ -1,22 +1,15 @@
--- The writer: the bytes of a file by their three parts, and each way out of it.
+-- The bytes of a file by their three parts, put one after the other.
 use Prim.Native.Nat.{ℕ, _+_, _≤_}
 use mathlib.Core.List.{List, [], _∷_, _++_}
-use mathlib.Core.Path.{_≡_, refl, sym, ap, _∙_}
+use mathlib.Core.Path.{_≡_, refl, ap, _∙_}
 use native.Mathlib.Omega.{arith}
 use lib.ListN.{length, length-append}
-use borrow.Author.Tests.{leb-true}
-use Rattle.verdict.specs.declared.Verdict.{Verdict}
-use Rattle.verdict.specs.declared.Verdict.the-variants.{Fine}
-use Rattle.verdict.proofs.Ordered.{need-fine, order-fine}
-use Rattle.sets.specs.Sets.{Good}
-use Rattle.pattern.specs.Pattern.{Pattern, Valid}
-use Rattle.pattern.proofs.Validity.{pattern-valid, set-fine}
-use Rattle.numbers.specs.Numbers.{Stored}
+use Rattle.lent.specs.Lent.{Put}
+use Rattle.lent.proofs.Putting.{put-length, put-then}
+use Rattle.pattern.specs.Pattern.{Pattern}
 use Rattle.numbers.specs.Format.{encodeAll}
 use Rattle.numbers.proofs.Parts.{encode-append}
-use Rattle.numbers.proofs.Puts.{stored-then, stored-length}
-use Rattle.patternfile.specs.PatternFile.{roomTest}
-use Rattle.patternfile.specs.Writer.{fileBytes, writeTest, WriteDone}
+use Rattle.patternfile.specs.PatternFile.{fileBytes}
 
 module _ (P : Pattern) (x y : ℕ) where
   abbrev head : List ℕ
@@ -32,52 +25,24 @@ module _ (P : Pattern) (x y : ℕ) where
   pub parts-size : length (fileBytes P x y) ≡ length (encodeAll head) + length (encodeAll (P .rows)) + length (encodeAll starts)
   parts-size = omega (arith, ap length parts, length-append (encodeAll head) (encodeAll (P .rows) ++ encodeAll starts), length-append (encodeAll (P .rows)) (encodeAll starts))
 
-  -- what the writer lets through
-  pub record Allowed (room : ℕ) : Type 0 where
-    pub valid : Valid P
-    pub good-x : Good (P .states) x
-    pub good-y : Good (P .states) y
-    pub enough : length (fileBytes P x y) ≤ room
-
-  pub allowed : (room : ℕ) → writeTest P x y room ≡ Fine → Allowed room
-  unfolding writeTest roomTest
-  allowed room h =
-      let f = order-fine _ .0 h in
-      record {
-        valid = pattern-valid P .0 (f .0);
-        good-x = set-fine (P .states) x .0 (f .1 .0);
-        good-y = set-fine (P .states) y .0 (f .1 .1 .0);
-        enough = leb-true (length (fileBytes P x y)) room (need-fine _ 14 (f .1 .1 .1 .0));
-      }
-
   -- the head as the code has it: n and k as 64-bit numbers
   module _ {n k : ℕ} (en : n ≡ P .states) (ek : k ≡ P .letters) where
     pub sizes-add : {a b c : ℕ} → a ≡ length (encodeAll (n ∷ k ∷ P .finals ∷ [])) → b ≡ length (encodeAll (P .rows)) → c ≡ length (encodeAll starts)
         → a + b + c ≡ length (fileBytes P x y)
     sizes-add {a} p q r = let h : a ≡ length (encodeAll head) = p ∙ rw (en, ek) in omega (arith, parts-size)
 
-    module _ (old : List ℕ) {t : Verdict} (et : t ≡ writeTest P x y (length old)) (qt : t ≡ Fine) where
-      room-all : length (encodeAll (n ∷ k ∷ P .finals ∷ [])) + length (encodeAll (P .rows)) + length (encodeAll starts) ≤ length old
-      room-all = omega (arith, sizes-add refl refl refl, allowed (length old) (sym et ∙ qt) .enough)
+    module _ (old : List ℕ) (at : ℕ) (room : at + length (fileBytes P x y) ≤ length old) where
+      pub room-head : at + length (encodeAll (n ∷ k ∷ P .finals ∷ [])) ≤ length old
+      room-head = omega (arith, room, sizes-add refl refl refl)
 
-      pub room-head : 0 + length (encodeAll (n ∷ k ∷ P .finals ∷ [])) ≤ length old
-      room-head = omega (arith, room-all)
-
-      module _ {a : ℕ} {o₁ : List ℕ} (s : Stored old 0 (encodeAll (n ∷ k ∷ P .finals ∷ [])) a o₁) where
-        pub long-head : length o₁ ≡ length old
-        long-head = stored-length s
-
+      module _ {a : ℕ} {o₁ : List ℕ} (s : Put old at (encodeAll (n ∷ k ∷ P .finals ∷ [])) a o₁) where
         pub room-rows : a + length (encodeAll (P .rows)) ≤ length o₁
-        room-rows = omega (arith, room-all, s .after, long-head)
+        room-rows = omega (arith, room, sizes-add refl refl refl, s .ends, put-length s)
 
-        module _ {b : ℕ} {o₂ : List ℕ} (u : Stored o₁ a (encodeAll (P .rows)) b o₂) where
+        module _ {b : ℕ} {o₂ : List ℕ} (u : Put o₁ a (encodeAll (P .rows)) b o₂) where
           pub room-starts : b + length (encodeAll starts) ≤ length o₂
-          room-starts = omega (arith, room-all, s .after, u .after, long-head, stored-length u)
+          room-starts = omega (arith, room, sizes-add refl refl refl, s .ends, u .ends, put-length s, put-length u)
 
           -- the three parts, put one after the other
-          pub writes-done : {end : ℕ} {new : List ℕ} → Stored o₂ b (encodeAll starts) end new → WriteDone P x y old end new
-          writes-done v =
-              record {
-                allowed = sym et ∙ qt;
-                written = rw parts (stored-then (rw (en, ek) at s) (stored-then u v));
-              }
+          pub all-put : {end : ℕ} {new : List ℕ} → Put o₂ b (encodeAll starts) end new → Put old at (fileBytes P x y) end new
+          all-put v = rw parts (put-then (rw (en, ek) at s) (put-then u v))

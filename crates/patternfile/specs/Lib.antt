@@ -1,5 +1,7 @@
--- The pattern file, what reading and writing one promise, and what only the inner functions cite.
+-- The pattern file, what reading and writing one promise, what their answers mean, and what the parts of both promise.
 pub mod PatternFile
 pub mod Reader
 pub mod Writer
-pub mod Inner
+pub mod Refusals
+pub mod Meaning
+pub mod Parts

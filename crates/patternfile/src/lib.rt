@@ -2,15 +2,17 @@
 use numbers::Number;
 use verdict::Verdict;
 ghost use mathlib.Core.Path.{_≡_};
-ghost use Prim.Native.Nat.{_*_, _≤_};
+ghost use Prim.Native.Nat.{_+_, _*_, _≤_};
 ghost use lib.ListN.{length};
+ghost use Rattle.lent.specs.Lent.{before};
 ghost use Rattle.pattern.specs.Pattern.{Sized, patternOf};
 ghost use Rattle.pattern.specs.Tests.{sizeTest, setTest};
 ghost use Rattle.numbers.specs.Numbers.{numberAt};
 ghost use Rattle.numbers.specs.Format.{heldTo, reading, many, ended};
-ghost use Rattle.patternfile.specs.Reader.{Reads};
-ghost use Rattle.patternfile.specs.Writer.{fileBytes, writeTest, Writes};
-ghost use Rattle.patternfile.specs.Inner.{Judges, passed, refusedBy, Filled};
+ghost use Rattle.patternfile.specs.PatternFile.{fileBytes};
+ghost use Rattle.patternfile.specs.Reader.{ReadsFile};
+ghost use Rattle.patternfile.specs.Writer.{writeTest, WritesFile};
+ghost use Rattle.patternfile.specs.Parts.{Judges, passed, stoppedBy, Fills, PutsPattern};
 
 // What reading answers: the file's numbers, its rows being in the buffer lent; or a refusal's number and place.
 pub enum PatternRead {
@@ -22,6 +24,19 @@ pub enum PatternRead {
         y: u64,
     },
     Refused(u8, usize),
+}
+
+// What the first pass answers: the pattern's numbers and the place after them; or a refusal's number and place.
+pub enum PatternPart {
+    Whole {
+        states: usize,
+        letters: usize,
+        finals: u64,
+        x: u64,
+        y: u64,
+        end: usize,
+    },
+    Stopped(u8, usize),
 }
 
 // What writing answers: how many bytes, or a refusal's number.
@@ -50,7 +65,7 @@ fn product(states: usize, letters: usize) -> usize
 }
 
 fn read_size(bytes: &[u8], at: usize, most: usize) -> Number
-    ensures { λ r. ⌜ r ≡ heldTo (sizeTest most) at (numberAt (now (bytes .entry)) at) ⌝ }
+    ensures { λ r. ⌜ r ≡ heldTo (sizeTest most) at (numberAt (before bytes) at) ⌝ }
 {
     let size = numbers::read(bytes, at);
     let Number::Value(v, next) = size else {
@@ -60,7 +75,7 @@ fn read_size(bytes: &[u8], at: usize, most: usize) -> Number
 }
 
 fn read_set(bytes: &[u8], at: usize, states: usize) -> Number
-    ensures { λ r. ⌜ r ≡ heldTo (setTest states) at (numberAt (now (bytes .entry)) at) ⌝ }
+    ensures { λ r. ⌜ r ≡ heldTo (setTest states) at (numberAt (before bytes) at) ⌝ }
 {
     let set = numbers::read(bytes, at);
     let Number::Value(v, next) = set else {
@@ -71,7 +86,7 @@ fn read_set(bytes: &[u8], at: usize, states: usize) -> Number
 
 // Judges so many sets from a place on.
 fn pass_sets(bytes: &[u8], at: usize, states: usize, count: usize) -> Number
-    ensures { λ r. ⌜ r ≡ passed count (reading (many count (setTest states) ended) (now (bytes .entry)) at) ⌝ }
+    ensures { λ r. ⌜ r ≡ passed count (reading (many count (setTest states) ended) (before bytes) at) ⌝ }
 {
     let mut left = count;
     let mut place = at;
@@ -86,65 +101,63 @@ fn pass_sets(bytes: &[u8], at: usize, states: usize, count: usize) -> Number
     Number::Value(wide(count), place)
 }
 
-fn refused(number: Number) -> PatternRead
-    ensures { λ r. ⌜ r ≡ refusedBy number ⌝ }
+fn stopped(number: Number) -> PatternPart
+    ensures { λ r. ⌜ r ≡ stoppedBy number ⌝ }
 {
     match number {
-        Number::Value(_, next) => PatternRead::Refused(0, next),
-        Number::Fault(why, place) => PatternRead::Refused(why, place),
+        Number::Value(_, next) => PatternPart::Stopped(0, next),
+        Number::Fault(why, place) => PatternPart::Stopped(why, place),
     }
 }
 
-// The first pass: the whole file, for a row buffer of so many entries.
-fn judge(bytes: &[u8], room: usize) -> PatternRead
-    ensures { λ r. ⌜ Judges (now (bytes .entry)) room r ⌝ }
+// The first pass: the pattern's numbers, for a row buffer of so many entries; bytes after them are not looked at.
+pub fn judge(bytes: &[u8], room: usize) -> PatternPart
+    ensures { λ r. ⌜ Judges (before bytes) room r ⌝ }
 {
     let n_read = read_size(bytes, 0, 64);
     let Number::Value(n, at_letters) = n_read else {
-        return refused(n_read);
+        return stopped(n_read);
     };
     let k_read = read_size(bytes, at_letters, 32);
     let Number::Value(k, at_finals) = k_read else {
-        return refused(k_read);
+        return stopped(k_read);
     };
     let states = index(n);
     let letters = index(k);
     let count = product(states, letters);
     if room < count {
-        return PatternRead::Refused(14, at_finals);
+        return PatternPart::Stopped(14, at_finals);
     }
     let finals_read = read_set(bytes, at_finals, states);
     let Number::Value(finals, at_rows) = finals_read else {
-        return refused(finals_read);
+        return stopped(finals_read);
     };
     let rows_passed = pass_sets(bytes, at_rows, states, count);
     let Number::Value(_, at_x) = rows_passed else {
-        return refused(rows_passed);
+        return stopped(rows_passed);
     };
     let x_read = read_set(bytes, at_x, states);
     let Number::Value(x, at_y) = x_read else {
-        return refused(x_read);
+        return stopped(x_read);
     };
     let y_read = read_set(bytes, at_y, states);
     let Number::Value(y, end) = y_read else {
-        return refused(y_read);
+        return stopped(y_read);
     };
-    if end < bytes.len() {
-        return PatternRead::Refused(22, end);
-    }
-    PatternRead::Done {
+    PatternPart::Whole {
         states: states,
         letters: letters,
         finals: finals,
         x: x,
         y: y,
+        end: end,
     }
 }
 
 // The second pass: so many numbers from a place on go into the rows, as far as they can be read.
-fn fill(bytes: &[u8], at: usize, rows: &mut [u64], count: usize)
+pub fn fill(bytes: &[u8], at: usize, rows: &mut [u64], count: usize)
     requires { ⌜ count ≤ length (now rows) ⌝ }
-    ensures { λ _. ⌜ Filled (now (bytes .entry)) at count (now (rows .entry)) (now (rows .exit)) ⌝ }
+    ensures { λ _. ⌜ Fills bytes at count rows ⌝ }
 {
     let mut i: usize = 0;
     let mut place = at;
@@ -161,27 +174,38 @@ fn fill(bytes: &[u8], at: usize, rows: &mut [u64], count: usize)
 
 // Reads a pattern file. n and k are one byte each, so the rows stand two bytes and the finals' bytes behind the start.
 pub fn read(bytes: &[u8], rows: &mut [u64]) -> PatternRead
-    ensures { λ r. ⌜ Reads (now (bytes .entry)) (now (rows .entry)) r (now (rows .exit)) ⌝ }
+    ensures { λ r. ⌜ ReadsFile bytes rows r ⌝ }
 {
-    let answer = judge(bytes, rows.len());
-    let PatternRead::Done {
-        states,
-        letters,
-        finals,
-        x: _,
-        y: _,
-    } = answer
-    else {
-        return answer;
-    };
-    let at = 2 + numbers::size(finals);
-    fill(bytes, at, rows, product(states, letters));
-    answer
+    let part = judge(bytes, rows.len());
+    match part {
+        PatternPart::Stopped(why, place) => PatternRead::Refused(why, place),
+        PatternPart::Whole {
+            states,
+            letters,
+            finals,
+            x,
+            y,
+            end,
+        } => {
+            if end < bytes.len() {
+                return PatternRead::Refused(22, end);
+            }
+            let at = 2 + numbers::size(finals);
+            fill(bytes, at, rows, product(states, letters));
+            PatternRead::Done {
+                states: states,
+                letters: letters,
+                finals: finals,
+                x: x,
+                y: y,
+            }
+        }
+    }
 }
 
-// How many bytes the file takes.
-fn file_size(states: usize, letters: usize, finals: u64, rows: &[u64], x: u64, y: u64) -> usize
-    ensures { λ r. ⌜ r ≡ length (fileBytes (patternOf states letters finals (now (rows .entry))) x y) ⌝ }
+// How many bytes the pattern's numbers take.
+pub fn file_size(states: usize, letters: usize, finals: u64, rows: &[u64], x: u64, y: u64) -> usize
+    ensures { λ r. ⌜ r ≡ length (fileBytes (patternOf states letters finals (before rows)) x y) ⌝ }
 {
     let head = [wide(states), wide(letters), finals];
     let tail = [x, y];
@@ -198,7 +222,7 @@ fn write_test(
     y: u64,
     room: usize,
 ) -> Verdict
-    ensures { λ r. ⌜ r ≡ writeTest (patternOf states letters finals (now (rows .entry))) x y room ⌝ }
+    ensures { λ r. ⌜ r ≡ writeTest (patternOf states letters finals (before rows)) x y room ⌝ }
 {
     let pattern = pattern::pattern_test(states, letters, finals, rows);
     let Verdict::Fine = pattern else {
@@ -215,6 +239,27 @@ fn write_test(
     verdict::need(file_size(states, letters, finals, rows, x, y) <= room, 14)
 }
 
+// Puts the bytes of the pattern's numbers from a place on, and returns the place after them.
+pub fn put_pattern(
+    out: &mut [u8],
+    at: usize,
+    states: usize,
+    letters: usize,
+    finals: u64,
+    rows: &[u64],
+    x: u64,
+    y: u64,
+) -> usize
+    requires { ⌜ at + length (fileBytes (patternOf states letters finals (now rows)) x y) ≤ length (now out) ⌝ }
+    ensures { λ r. ⌜ PutsPattern out at states letters finals rows x y r ⌝ }
+{
+    let head = [wide(states), wide(letters), finals];
+    let starts = [x, y];
+    let at_rows = numbers::write_all(out, at, &head);
+    let at_starts = numbers::write_all(out, at_rows, rows);
+    numbers::write_all(out, at_starts, &starts)
+}
+
 // Writes a pattern file.
 pub fn write(
     states: usize,
@@ -225,16 +270,11 @@ pub fn write(
     y: u64,
     out: &mut [u8],
 ) -> Written
-    ensures { λ r. ⌜ Writes (patternOf states letters finals (now (rows .entry))) x y (now (out .entry)) r (now (out .exit)) ⌝ }
+    ensures { λ r. ⌜ WritesFile states letters finals rows x y out r ⌝ }
 {
     let test = write_test(states, letters, finals, rows, x, y, out.len());
     if let Verdict::Against(why) = test {
         return Written::Refused(why);
     }
-    let head = [wide(states), wide(letters), finals];
-    let tail = [x, y];
-    let at_rows = numbers::write_all(out, 0, &head);
-    let at_starts = numbers::write_all(out, at_rows, rows);
-    let end = numbers::write_all(out, at_starts, &tail);
-    Written::Done(end)
+    Written::Done(put_pattern(out, 0, states, letters, finals, rows, x, y))
 }

@@ -1,5 +1,3 @@
--- Laws that belong to no one function: the list of records, then that every export is determined.
-pub mod Entering
-pub mod Agreeing
-pub mod Gathering
+-- Laws that belong to no one function: what a host is promised, and that every export is determined.
+pub mod Promises
 pub mod Determined

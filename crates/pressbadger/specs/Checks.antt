@@ -1,14 +1,20 @@
--- What the exports for evidence answer: the promise of `evidence`, as the host reads it.
-use mathlib.Core.Path.{_≡_}
-use Rattle.evidence.specs.Evidence.{Offer, Checked, numberOf, placeOf}
-use Rattle.evidence.specs.declared.Answer.{Answer}
-use Rattle.pressbadger.specs.declared.checks.PbChecked.{PbChecked}
+-- What the check of evidence answers: for two lists of numbers, and for the two sides of a list of records.
+--   offerFor   the two sides of a list of pairs, offered for X and Y of a question
+use Prim.Native.Nat.{ℕ}
+use Rattle.lent.specs.Lent.{SliceOf, Slice, before}
+use Rattle.walk.specs.Walk.{Question, questionOf}
+use Rattle.walk.specs.Columns.{Columns}
+use Rattle.evidence.specs.Evidence.{Offer, offerIn}
+use Rattle.records.specs.declared.PbRecord.{PbRecord}
+use Rattle.records.specs.declared.answers.PbChecked.{PbChecked}
+use Rattle.records.specs.Answers.{CheckedOffer}
+use Rattle.records.specs.Records.{columnsIn}
 
--- document 01's number and place of an answer
-abbrev pub checkAnswer : Answer → PbChecked
-checkAnswer a = record { answer = numberOf a; place = placeOf a }
+abbrev pub offerFor : Question → Columns → Offer
+offerFor Q pairs = record { pattern = Q .pattern; x = Q .left; y = Q .right; lefts = pairs .lefts; rights = pairs .rights }
 
-pub record ChecksOffer (o : Offer) (r : PbChecked) : Type 0 where
-  pub answer : Answer
-  pub checked : Checked o answer
-  pub answers : r ≡ checkAnswer answer
+abbrev pub ChecksLists : ℕ → ℕ → ℕ → Slice → ℕ → ℕ → Slice → Slice → PbChecked → Type 0
+ChecksLists states letters finals rows x y lefts rights r = CheckedOffer (offerIn states letters finals rows x y lefts rights) r
+
+abbrev pub ChecksRecords : ℕ → ℕ → ℕ → Slice → ℕ → ℕ → SliceOf PbRecord → PbChecked → Type 0
+ChecksRecords states letters finals rows x y records r = CheckedOffer (offerFor (questionOf states letters finals (before rows) x y) (columnsIn (before records))) r

@@ -1,7 +1,6 @@
--- What the exports answer; then what only the private functions cite.
-pub mod Host
-pub mod Lists
-pub mod Records
+-- What the exports return and leave, and what a host is promised of them.
+pub mod Compares
 pub mod Checks
+pub mod Judges
 pub mod Files
-pub mod Inner
+pub mod Promises

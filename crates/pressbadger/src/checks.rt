@@ -1,15 +1,7 @@
-// Evidence for the host: a list of pairs checked.
-ghost use mathlib.Core.Path.{_≡_};
-ghost use Rattle.evidence.specs.Evidence.{offerOf};
-ghost use Rattle.pressbadger.specs.Checks.{checkAnswer, ChecksOffer};
-use evidence::Answer;
-
-// The answer to `pb_check`: PROVED or NOT-PROVED with its place, or a refusal and 0.
-#[repr(C)]
-pub struct PbChecked {
-    pub answer: u8,
-    pub place: usize,
-}
+// Evidence: pairs checked, in two lists of numbers or in a list of records.
+ghost use Rattle.pressbadger.specs.Checks.{ChecksLists, ChecksRecords};
+use records::PbRecord;
+use records::answers::PbChecked;
 
 // Checks the pairs of `lefts` and `rights` as evidence that `x` and `y` have one language.
 #[no_mangle]
@@ -23,27 +15,26 @@ pub extern "C" fn pb_check(
     lefts: &[u64],
     rights: &[u64],
 ) -> PbChecked
-    ensures { λ r. ⌜ ChecksOffer (offerOf states letters finals (now (rows .entry)) x y (now (lefts .entry)) (now (rights .entry))) r ⌝ }
+    ensures { λ r. ⌜ ChecksLists states letters finals rows x y lefts rights r ⌝ }
 {
     let answer = evidence::check(states, letters, finals, rows, x, y, lefts, rights);
-    check_answer(answer)
+    records::answers::check_answer(answer)
 }
 
-pub fn check_answer(answer: Answer) -> PbChecked
-    ensures { λ r. ⌜ r ≡ checkAnswer answer ⌝ }
+// Checks the pairs of a list of records, as SAME leaves it, as evidence that the sets `x` and `y` have one language.
+#[no_mangle]
+pub extern "C" fn pb_check_records(
+    states: usize,
+    letters: usize,
+    finals: u64,
+    rows: &[u64],
+    x: u64,
+    y: u64,
+    records: &[PbRecord],
+) -> PbChecked
+    ensures { λ r. ⌜ ChecksRecords states letters finals rows x y records r ⌝ }
 {
-    match answer {
-        Answer::Proved => PbChecked {
-            answer: 5,
-            place: 0,
-        },
-        Answer::NotProved(place) => PbChecked {
-            answer: 6,
-            place: place,
-        },
-        Answer::Refused(number) => PbChecked {
-            answer: number,
-            place: 0,
-        },
-    }
+    let n = records::checks::shown(records.len());
+    let sides = records::checks::gather(records, n);
+    records::checks::check_sides(states, letters, finals, rows, x, y, n, sides)
 }

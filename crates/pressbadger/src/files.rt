@@ -1,6 +1,5 @@
 // Pattern files for the host: read and written.
 ghost use mathlib.Core.Path.{_≡_};
-ghost use Rattle.pattern.specs.Pattern.{patternOf};
 ghost use Rattle.pressbadger.specs.Files.{patternAnswer, ReadsPattern, writtenAnswer, WritesPattern};
 use patternfile::PatternRead;
 use patternfile::Written;
@@ -27,7 +26,7 @@ pub struct PbWritten {
 // Reads a pattern file; its rows go into `rows`.
 #[no_mangle]
 pub extern "C" fn pb_read_pattern(bytes: &[u8], rows: &mut [u64]) -> PbPattern
-    ensures { λ r. ⌜ ReadsPattern (now (bytes .entry)) (now (rows .entry)) r (now (rows .exit)) ⌝ }
+    ensures { λ r. ⌜ ReadsPattern bytes rows r ⌝ }
 {
     let read = patternfile::read(bytes, rows);
     pattern_answer(read)
@@ -75,7 +74,7 @@ pub extern "C" fn pb_write_pattern(
     y: u64,
     bytes: &mut [u8],
 ) -> PbWritten
-    ensures { λ r. ⌜ WritesPattern (patternOf states letters finals (now (rows .entry))) x y (now (bytes .entry)) r (now (bytes .exit)) ⌝ }
+    ensures { λ r. ⌜ WritesPattern states letters finals rows x y bytes r ⌝ }
 {
     let written = patternfile::write(states, letters, finals, rows, x, y, bytes);
     written_answer(written)

@@ -1,14 +1,11 @@
 // The host's face: the calls that C and Rust programs make. `include/pressbadger.h` is their manual.
 ghost use mathlib.Core.Path.{_≡_};
-ghost use Rattle.pattern.specs.Pattern.{patternOf};
-ghost use Rattle.pattern.specs.Judge.{judged};
-ghost use Rattle.pressbadger.specs.Host.{judgeAnswer};
+ghost use Rattle.pressbadger.specs.Judges.{Judges};
 use pattern::Judged;
 
-pub mod checks; // checks.rt: evidence checked
+pub mod checks; // checks.rt: evidence checked, in two lists or in a list of records
+pub mod compares; // compares.rt: the comparison over a list of records, and over lists of numbers
 pub mod files; // files.rt: pattern files, read and written
-pub mod lists; // lists.rt: the comparison over lists of numbers
-pub mod records; // records.rt: the comparison over a list of records, and the check of such a list
 
 // The answer to `pb_judge`.
 #[repr(C)]
@@ -26,7 +23,7 @@ pub extern "C" fn pb_judge(
     set: u64,
     sequence: &[u8],
 ) -> PbJudged
-    ensures { λ r. ⌜ r ≡ judgeAnswer (judged (patternOf states letters finals (now (rows .entry))) set (now (sequence .entry))) ⌝ }
+    ensures { λ r. ⌜ Judges states letters finals rows set sequence r ⌝ }
 {
     let judged = pattern::judge(states, letters, finals, rows, set, sequence);
     match judged {

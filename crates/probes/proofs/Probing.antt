@@ -6,21 +6,15 @@ use native.Mathlib.Omega.{arith}
 use Rattle.verdict.specs.declared.Verdict.{Verdict}
 use Rattle.verdict.specs.declared.Verdict.the-variants.{Fine, Against}
 use Rattle.verdict.specs.Tests.{Decides}
+use Rattle.verdict.proofs.Ordered.{apart, one-number}
 use Rattle.probes.specs.Probes.{Probes, Says}
-use Rattle.probes.specs.declared.Probed.{Probed}
-
-apart : {v : Verdict} {w : ℕ} → v ≡ Fine → v ≡ Against w → ⊥
-apart p q = let z : _≡_ {A = ℕ} 0 1 = cc in omega arith
-
-against : {v : Verdict} {w u : ℕ} → v ≡ Against w → v ≡ Against u → w ≡ u
-against p q = cc
 
 module _ {test : Verdict} {Right : ℕ → Type 0} {v : ℕ} where
   pub probe-done : test ≡ Fine → Right v → Probes test Right (record { answer = 7; value = v })
-  probe-done e r = record { done = λ p. (refl, r); refused = λ w p. absurd (apart e p) }
+  probe-done e r = record { done = λ p. (refl, r); refused = λ w p. apart e p }
 
 pub probe-refused : {test : Verdict} {w : ℕ} (Right : ℕ → Type 0) → test ≡ Against w → Probes test Right (record { answer = w; value = 0 })
-probe-refused Right e = record { done = λ p. absurd (apart p e); refused = λ u p. (against e p, refl) }
+probe-refused Right e = record { done = λ p. apart p e; refused = λ u p. (one-number e p, refl) }
 
 -- a flag as a number
 pub says-yes : {A : Type 0} {flag : Bool} → Decides A flag → flag ≡ true → Says A 1

@@ -7,9 +7,14 @@ use lib.Dec.{eqb, ltb}
 use Rattle.verdict.specs.declared.Verdict.{Verdict}
 use Rattle.verdict.specs.declared.Verdict.the-variants.{Fine, Against}
 use Rattle.verdict.specs.Tests.{need, inOrder}
-use Rattle.pattern.specs.Pattern.{Pattern}
+use Rattle.lent.specs.Lent.{Slice}
+use Rattle.pattern.specs.Pattern.{Pattern, patternIn}
 use Rattle.pattern.specs.Tests.{shapeTest}
+use Rattle.pattern.specs.Language.{next}
 use Rattle.pattern.specs.Judge.{letterTest}
+use Rattle.lent.specs.Lent.{Slice, before}
+use Rattle.congruence.specs.Congruence.{Congruent, Listed}
+use Rattle.congruence.specs.Closing.{Closes}
 use Rattle.probes.specs.declared.Probed.{Probed}
 
 pub record Probes (test : Verdict) (Right : ℕ → Type 0) (r : Probed) : Type 0 where
@@ -24,6 +29,11 @@ stateTest s = need (ltb s 64) 12
 unfoldable pub nextTest : Pattern → ℕ → Verdict
 nextTest P a = inOrder (shapeTest P ∷ letterTest (P .letters) a ∷ [])
 
+-- the set that a letter takes a set to, whatever the finals are
+abbrev pub ProbesNext : ℕ → ℕ → Slice → ℕ → ℕ → Probed → Type 0
+ProbesNext n k rows set letter r =
+    (finals : ℕ) → Probes (nextTest (patternIn n k finals rows) letter) (λ v. v ≡ next (patternIn n k finals rows) set letter) r
+
 -- two sides of one length
 unfoldable pub sidesTest : List ℕ → List ℕ → Verdict
 sidesTest lefts rights = need (eqb (length lefts) (length rights)) 16
@@ -33,3 +43,13 @@ pub record Says (A : Type 0) (v : ℕ) : Type 0 where
   pub bound : v ≤ 1
   pub sound : v ≡ 1 → A
   pub complete : v ≡ 0 → A → ⊥
+
+-- ---- what is asked of a lent list of pairs
+
+-- the set, closed by the pairs
+abbrev pub ProbesClosing : Slice → Slice → ℕ → Probed → Type 0
+ProbesClosing lefts rights set r = Probes (sidesTest (before lefts) (before rights)) (λ v. Closes (Listed (before lefts) (before rights)) set v) r
+
+-- whether two sets are congruent by the pairs
+abbrev pub ProbesCongruence : Slice → Slice → ℕ → ℕ → Probed → Type 0
+ProbesCongruence lefts rights a b r = Probes (sidesTest (before lefts) (before rights)) (λ v. Says (Congruent (Listed (before lefts) (before rights)) a b) v) r

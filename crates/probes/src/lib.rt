@@ -1,17 +1,13 @@
 // Exports for tests alone: what the host does not call.
 ghost use mathlib.Core.Path.{_≡_};
-ghost use Prim.Native.Nat.{ℕ, _^_};
-ghost use lib.ListN.{length};
+ghost use Prim.Native.Nat.{_^_};
 ghost use lib.Bits.{bitOr};
 ghost use Rattle.verdict.specs.Tests.{Decides};
 ghost use Rattle.sets.specs.Sets.{Within, meets};
-ghost use Rattle.pattern.specs.Pattern.{patternOf};
+ghost use Rattle.pattern.specs.Pattern.{patternIn};
 ghost use Rattle.pattern.specs.Tests.{patternTest};
-ghost use Rattle.pattern.specs.Language.{next};
-ghost use Rattle.congruence.specs.Congruence.{Congruent, Listed};
-ghost use Rattle.congruence.specs.Closing.{Closes};
 ghost use Rattle.numbers.specs.Numbers.{numberAt};
-ghost use Rattle.probes.specs.Probes.{Probes, Says, stateTest, nextTest, sidesTest};
+ghost use Rattle.probes.specs.Probes.{Probes, ProbesNext, ProbesClosing, ProbesCongruence, stateTest};
 ghost use Rattle.probes.specs.Numbers.{probedNumber, WritesNumber};
 use numbers::Number;
 use sets::States;
@@ -75,7 +71,7 @@ pub extern "C" fn probe_single(s: usize) -> Probed
 // What is against a pattern.
 #[no_mangle]
 pub extern "C" fn probe_pattern(states: usize, letters: usize, finals: u64, rows: &[u64]) -> Probed
-    ensures { λ r. ⌜ Probes (patternTest (patternOf states letters finals (now (rows .entry)))) (λ v. v ≡ 0) r ⌝ }
+    ensures { λ r. ⌜ Probes (patternTest (patternIn states letters finals rows)) (λ v. v ≡ 0) r ⌝ }
 {
     let test = pattern::pattern_test(states, letters, finals, rows);
     match test {
@@ -99,7 +95,7 @@ pub extern "C" fn probe_next(
     set: u64,
     letter: u8,
 ) -> Probed
-    ensures { λ r. ⌜ ((finals : ℕ) → Probes (nextTest (patternOf states letters finals (now (rows .entry))) letter) (λ v. v ≡ next (patternOf states letters finals (now (rows .entry))) set letter) r) ⌝ }
+    ensures { λ r. ⌜ ProbesNext states letters rows set letter r ⌝ }
 {
     let shape = pattern::shape_test(states, letters, rows);
     if let Verdict::Against(number) = shape {
@@ -124,7 +120,7 @@ pub extern "C" fn probe_next(
 // A set closed by a list of pairs.
 #[no_mangle]
 pub extern "C" fn probe_close(lefts: &[u64], rights: &[u64], set: u64) -> Probed
-    ensures { λ r. ⌜ Probes (sidesTest (now (lefts .entry)) (now (rights .entry))) (λ v. Closes (Listed (now (lefts .entry)) (now (rights .entry))) set v) r ⌝ }
+    ensures { λ r. ⌜ ProbesClosing lefts rights set r ⌝ }
 {
     if lefts.len() == rights.len() {
         return Probed {
@@ -141,7 +137,7 @@ pub extern "C" fn probe_close(lefts: &[u64], rights: &[u64], set: u64) -> Probed
 // Whether two sets are congruent by a list of pairs: 1 or 0.
 #[no_mangle]
 pub extern "C" fn probe_congruent(lefts: &[u64], rights: &[u64], a: u64, b: u64) -> Probed
-    ensures { λ r. ⌜ Probes (sidesTest (now (lefts .entry)) (now (rights .entry))) (λ v. Says (Congruent (Listed (now (lefts .entry)) (now (rights .entry))) a b) v) r ⌝ }
+    ensures { λ r. ⌜ ProbesCongruence lefts rights a b r ⌝ }
 {
     if lefts.len() == rights.len() {
         if congruence::congruent(lefts, rights, a, b) {

@@ -1,22 +1,16 @@
 -- What some texts look like. Assumes nothing.
 use mathlib.Core.Path.{_≡_, refl}
 use mathlib.Core.List.{List, [], _∷_}
-use Prim.Native.Nat.{ℕ}
-use native.Mathlib.Omega.{arith}
-use Rattle.verdict.specs.Tests.{need, inOrder}
-use Rattle.pattern.specs.Tests.{sizeTest, setTest}
-use Rattle.numbers.specs.Numbers.{byteTest, groups, numberAt}
-use Rattle.numbers.specs.Format.{many, reading, fileReading}
-use Rattle.patternfile.specs.PatternFile.{roomTest, patternFormat}
-use Rattle.patternfile.proofs.Examples.{no-bytes}
+use Prim.Native.Nat.{ℕ, _≤_}
+use Rattle.asking.proofs.Examples.{no-input, pattern-a, asks-a}
 use Rattle.walk.specs.Walk.Outcome.{Same, Different, Full}
-use Rattle.walk.specs.Known.{A, pair, Row, Holds, Known}
+use Rattle.walk.specs.Known.{pair, Row, Holds, Known}
 use Rattle.walk.specs.Known.Known.{row}
 use Rattle.walk.proofs.MoreRoom.{more-room}
 use Rattle.walk.proofs.KnownAnswers.{known-answers}
-use Rattle.text.specs.Text.{word, digits, decimal, spaced, joined, line}
+use Rattle.text.specs.Text.{word, digits, decimal, spaced, joined, line, refusalText}
 use Rattle.events.specs.Events.{names, eventName}
-use Rattle.report.specs.Report.{recordLines, textOf, refusalText, Asks, Prints}
+use Rattle.report.specs.Report.{recordLines, textOf, Prints}
 use Rattle.report.specs.Report.Prints.{refuses, answers}
 
 -- an empty line for the empty sequence
@@ -38,22 +32,15 @@ unfolding textOf line joined spaced decimal digits
 full-alone = refl
 
 -- no byte at all: CUT at place 0
-no-input : Prints [] (word "REFUSED 20 0\n")
+no-input-printed : (room : ℕ) → Prints room [] (word "REFUSED 20 0\n")
 unfolding refusalText line joined spaced decimal digits
-no-input = refuses {number = 20} {place = 0} no-bytes
+no-input-printed room = refuses {number = 20} {place = 0} no-input
 
--- ---- document 01: what the input `03 01 05 02 01 04 01 04` prints exactly
-
-abbrev pattern-a : List ℕ
-pattern-a = 0x03 ∷ 0x01 ∷ 0x05 ∷ 0x02 ∷ 0x01 ∷ 0x04 ∷ 0x01 ∷ 0x04 ∷ []
-
-asks-a : Asks pattern-a (A 1 4)
-unfolding fileReading patternFormat reading many numberAt groups byteTest sizeTest setTest roomTest inOrder need
-asks-a = record { tabled = refl; read = refl }
+-- ---- the scope, §10: what the input `03 01 05 02 01 04 01 04` prints exactly, in any room but 0
 
 first-known : {r : Row} {rows : List Row} → Known (r ∷ rows) → Holds r
 first-known (row h known) = h
 
-pub first-answer : Prints pattern-a (word "DIFFERENT 1 2 1\nREAD\n")
+pub first-answer : (room : ℕ) → 1 ≤ room → Prints room pattern-a (word "DIFFERENT 1 2 1\nREAD\n")
 unfolding textOf line joined spaced decimal digits eventName names
-first-answer = answers {o = Different (pair 1 4 0 0 ∷ []) 2 (0 ∷ [])} asks-a (more-room 1024 (omega arith) tt (first-known known-answers))
+first-answer room some = answers {o = Different (pair 1 4 0 0 ∷ []) 2 (0 ∷ [])} asks-a (more-room room some tt (first-known known-answers))

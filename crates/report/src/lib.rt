@@ -3,46 +3,24 @@ ghost use mathlib.Core.List.{_∷_, [], _++_, map};
 ghost use mathlib.Core.Path.{_≡_};
 ghost use Prim.Native.Nat.{_+_, _≤_};
 ghost use lib.ListN.{length};
-ghost use Rattle.text.specs.Text.{Put, word, decimal, spaced, line};
+ghost use Rattle.lent.specs.Lent.{before, Puts};
+ghost use Rattle.text.specs.Text.{word, decimal, spaced, line};
 ghost use Rattle.events.specs.Events.{eventName};
-ghost use Rattle.walk.specs.Answers.{lentOf};
-ghost use Rattle.report.specs.Report.{refusalText, longest, Lends, Leaves, Reports};
-ghost use Rattle.report.specs.Inner.{pairLines, answerText, Small};
+ghost use Rattle.asking.specs.Asking.{Lends};
+ghost use Rattle.report.specs.Report.{longest, Reports, Leaves};
+ghost use Rattle.report.specs.Inner.{pairLines, answerText, Printable};
+use asking::Asked;
+use comparison::Answer;
 use events::put_name;
-use patternfile::PatternRead;
 use text::put_byte;
-use text::put_bytes;
 use text::put_decimal;
+use text::put_head;
 use text::put_number;
-use walk::Answer;
-
-// Numbers, each with a space in front.
-fn put_numbers(out: &mut [u8], at: usize, numbers: &[u64]) -> usize
-    requires { ⌜ at + length (spaced (map decimal (now numbers))) ≤ length (now out) ⌝ }
-    ensures { λ r. ⌜ Put (now (out .entry)) at (spaced (map decimal (now (numbers .entry)))) r (now (out .exit)) ⌝ }
-{
-    let mut place = at;
-    let mut i: usize = 0;
-    while i < numbers.len() {
-        place = put_number(out, place, numbers[i]);
-        i = i + 1;
-    }
-    place
-}
-
-// The first line: a name and its numbers.
-fn put_head(out: &mut [u8], name: &[u8], numbers: &[u64]) -> usize
-    requires { ⌜ length (line (now name ∷ map decimal (now numbers))) ≤ length (now out) ⌝ }
-    ensures { λ r. ⌜ Put (now (out .entry)) 0 (line (now (name .entry) ∷ map decimal (now (numbers .entry)))) r (now (out .exit)) ⌝ }
-{
-    let first = put_bytes(out, 0, name);
-    let last = put_numbers(out, first, numbers);
-    put_byte(out, last, b'\n')
-}
+use text::put_refusal;
 
 fn put_record(out: &mut [u8], at: usize, left: u64, right: u64) -> usize
     requires { ⌜ at + length (line (decimal left ∷ decimal right ∷ [])) ≤ length (now out) ⌝ }
-    ensures { λ r. ⌜ Put (now (out .entry)) at (line (decimal left ∷ decimal right ∷ [])) r (now (out .exit)) ⌝ }
+    ensures { λ r. ⌜ Puts out at (line (decimal left ∷ decimal right ∷ [])) r ⌝ }
 {
     let first = put_decimal(out, at, left);
     let second = put_number(out, first, right);
@@ -53,7 +31,7 @@ fn put_record(out: &mut [u8], at: usize, left: u64, right: u64) -> usize
 fn put_records(out: &mut [u8], at: usize, lefts: &[u64], rights: &[u64]) -> usize
     requires { ⌜ length (now lefts) ≡ length (now rights) ⌝ }
     requires { ⌜ at + length (pairLines (now lefts) (now rights)) ≤ length (now out) ⌝ }
-    ensures { λ r. ⌜ Put (now (out .entry)) at (pairLines (now (lefts .entry)) (now (rights .entry))) r (now (out .exit)) ⌝ }
+    ensures { λ r. ⌜ Puts out at (pairLines (before lefts) (before rights)) r ⌝ }
 {
     let mut place = at;
     let mut record: usize = 0;
@@ -67,7 +45,7 @@ fn put_records(out: &mut [u8], at: usize, lefts: &[u64], rights: &[u64]) -> usiz
 // A name with a space in front, as the later ones of a line have it.
 fn put_event(out: &mut [u8], at: usize, letter: u8) -> usize
     requires { ⌜ at + length (word " " ++ eventName letter) ≤ length (now out) ⌝ }
-    ensures { λ r. ⌜ Put (now (out .entry)) at (word " " ++ eventName letter) r (now (out .exit)) ⌝ }
+    ensures { λ r. ⌜ Puts out at (word " " ++ eventName letter) r ⌝ }
 {
     let place = put_byte(out, at, b' ');
     put_name(out, place, letter)
@@ -76,7 +54,7 @@ fn put_event(out: &mut [u8], at: usize, letter: u8) -> usize
 // Names, each with a space in front.
 fn put_events(out: &mut [u8], at: usize, letters: &[u8]) -> usize
     requires { ⌜ at + length (spaced (map eventName (now letters))) ≤ length (now out) ⌝ }
-    ensures { λ r. ⌜ Put (now (out .entry)) at (spaced (map eventName (now (letters .entry)))) r (now (out .exit)) ⌝ }
+    ensures { λ r. ⌜ Puts out at (spaced (map eventName (before letters))) r ⌝ }
 {
     let mut place = at;
     let mut i: usize = 0;
@@ -90,7 +68,7 @@ fn put_events(out: &mut [u8], at: usize, letters: &[u8]) -> usize
 // One line of event names; an empty line for the empty sequence.
 fn put_sequence(out: &mut [u8], at: usize, sequence: &[u8]) -> usize
     requires { ⌜ at + length (line (map eventName (now sequence))) ≤ length (now out) ⌝ }
-    ensures { λ r. ⌜ Put (now (out .entry)) at (line (map eventName (now (sequence .entry)))) r (now (out .exit)) ⌝ }
+    ensures { λ r. ⌜ Puts out at (line (map eventName (before sequence))) r ⌝ }
 {
     if sequence.len() == 0 {
         return put_byte(out, at, b'\n');
@@ -98,14 +76,6 @@ fn put_sequence(out: &mut [u8], at: usize, sequence: &[u8]) -> usize
     let first = put_name(out, at, sequence[0]);
     let last = put_events(out, first, &sequence[1..]);
     put_byte(out, last, b'\n')
-}
-
-fn put_refusal(out: &mut [u8], number: u8, place: usize) -> usize
-    requires { ⌜ longest ≤ length (now out) ⌝ }
-    ensures { λ r. ⌜ Put (now (out .entry)) 0 (refusalText number place) r (now (out .exit)) ⌝ }
-{
-    let numbers = [number as u64, place as u64];
-    put_head(out, b"REFUSED", &numbers)
 }
 
 // The text of the comparison's answer, by what it left in the lists.
@@ -116,35 +86,32 @@ fn put_answer(
     rights: &[u64],
     sequence: &[u8],
 ) -> usize
-    requires { ⌜ longest ≤ length (now out) ⌝ }
-    requires { ⌜ Small answer ⌝ }
-    requires { ⌜ 1024 ≤ length (now lefts) ⌝ }
-    requires { ⌜ 1024 ≤ length (now rights) ⌝ }
-    requires { ⌜ 1024 ≤ length (now sequence) ⌝ }
-    ensures { λ r. ⌜ Put (now (out .entry)) 0 (answerText answer (now (lefts .entry)) (now (rights .entry)) (now (sequence .entry))) r (now (out .exit)) ⌝ }
+    requires { ⌜ Printable answer (now lefts) (now rights) (now sequence) (now out) ⌝ }
+    ensures { λ r. ⌜ Puts out 0 (answerText answer (before lefts) (before rights) (before sequence)) r ⌝ }
 {
     match answer {
         Answer::Same(kept, examined) => {
             let counts = [kept as u64, examined as u64];
-            let place = put_head(out, b"SAME", &counts);
+            let place = put_head(out, 0, b"SAME", &counts);
             put_records(out, place, &lefts[..kept], &rights[..kept])
         }
         Answer::Different(kept, examined, length) => {
             let counts = [kept as u64, examined as u64, length as u64];
-            let place = put_head(out, b"DIFFERENT", &counts);
+            let place = put_head(out, 0, b"DIFFERENT", &counts);
             put_sequence(out, place, &sequence[..length])
         }
         Answer::Full(kept, examined) => {
             let counts = [kept as u64, examined as u64];
-            put_head(out, b"FULL", &counts)
+            put_head(out, 0, b"FULL", &counts)
         }
-        Answer::Refused(number) => put_refusal(out, number, 0),
+        Answer::Refused(number) => put_refusal(out, 0, number, 0),
     }
 }
 
-// What `compare` prints for the bytes that it took in: reads the file, compares, and puts the text.
+// What `compare` prints for the bytes that it took in: asks their question in a room, and puts the text.
 pub fn report(
     bytes: &[u8],
+    room: usize,
     rows: &mut [u64],
     lefts: &mut [u64],
     rights: &mut [u64],
@@ -153,35 +120,14 @@ pub fn report(
     sequence: &mut [u8],
     out: &mut [u8],
 ) -> usize
-    requires { ⌜ Lends (now rows) (lentOf (now lefts) (now rights) (now parents) (now taken) (now sequence)) (now out) ⌝ }
-    ensures { λ r. ⌜ Reports (now (bytes .entry)) (now (out .entry)) r (now (out .exit)) ⌝ }
-    ensures { λ _. ⌜ Leaves (now (bytes .entry)) (now (rows .entry)) (lentOf (now (lefts .entry)) (now (rights .entry)) (now (parents .entry)) (now (taken .entry)) (now (sequence .entry))) (now (rows .exit)) (lentOf (now (lefts .exit)) (now (rights .exit)) (now (parents .exit)) (now (taken .exit)) (now (sequence .exit))) ⌝ }
+    requires { ⌜ Lends room rows lefts rights parents taken sequence ⌝ }
+    requires { ⌜ longest room ≤ length (now out) ⌝ }
+    ensures { λ r. ⌜ Reports bytes room out r ⌝ }
+    ensures { λ _. ⌜ Leaves bytes room rows lefts rights parents taken sequence ⌝ }
 {
-    let file = patternfile::read(bytes, rows);
-    match file {
-        PatternRead::Refused(number, place) => put_refusal(out, number, place),
-        PatternRead::Done {
-            states,
-            letters,
-            finals,
-            x,
-            y,
-        } => {
-            let count = states * letters;
-            let answer = walk::compare_default(
-                states,
-                letters,
-                finals,
-                &rows[..count],
-                x,
-                y,
-                lefts,
-                rights,
-                parents,
-                taken,
-                sequence,
-            );
-            put_answer(out, answer, lefts, rights, sequence)
-        }
+    let asked = asking::ask(bytes, room, rows, lefts, rights, parents, taken, sequence);
+    match asked {
+        Asked::Refused(number, place) => put_refusal(out, 0, number, place),
+        Asked::Answered(answer) => put_answer(out, answer, lefts, rights, sequence),
     }
 }

@@ -1,14 +1,15 @@
--- A mask is below 2 ^ n exactly when it has no bit n or above; union stays below. Assumes nothing.
+-- A mask is below 2 ^ n exactly when it has no bit n or above; union stays below; the set of all n states. Assumes nothing.
 use mathlib.Core.Path.{_≡_, sym, ap, _∙_}
 use mathlib.Core.Logic.{_↔_}
-use Prim.Native.Nat.{ℕ, _+_, _/_, _%_, _^_, _≤_, _<_}
-use native.Mathlib.Nat.{one-mul, lt-of-lt-of-le, div-eq-of-lt, div-lt-iff-lt-mul}
+use Prim.Native.Nat.{ℕ, _+_, _-_, _/_, _%_, _^_, _≤_, _<_}
+use native.Mathlib.Nat.{one-mul, lt-of-lt-of-le, div-eq-of-lt, div-lt-iff-lt-mul, mod-eq-of-lt}
 use native.Mathlib.Decide.{ℕ-discrete}
 use native.Mathlib.Omega.{arith}
-use lib.Bits.{bitOr, or-lt}
+use lib.Bits.{bitOr, or-lt, and-mask}
 use lib.Pow.{pow-mono, pow-pos, shr-shr}
-use Rattle.sets.specs.Sets.{bit, Has, Good}
+use Rattle.sets.specs.Sets.{bit, Has, Within, Good}
 use Rattle.sets.proofs.Bits.{some-state}
+use Rattle.sets.proofs.Inclusion.{within-test}
 
 good-none : {n a : ℕ} → Good n a → (s : ℕ) → n ≤ s → Has a s → ⊥
 good-none {n} {a} g s l h = omega (arith, ap (λ (x : ℕ). x % 2) (div-eq-of-lt (lt-of-lt-of-le (g .below) (pow-mono l))), h .is-one)
@@ -37,3 +38,7 @@ good-union {n} {a} {b} p q = record { below = or-lt n a b (p .below) (q .below) 
 
 pub good-empty : (n : ℕ) → Good n 0
 good-empty n = record { below = pow-pos n }
+
+-- the set of all n states has every set of them within it
+pub good-within-all : {n a : ℕ} → Good n a → Within a (2 ^ n - 1)
+good-within-all {n} {a} g = within-test a (2 ^ n - 1) .0 (and-mask a n ∙ mod-eq-of-lt (g .below))

@@ -4,3 +4,4 @@ pub mod Inclusion
 pub mod Meeting
 pub mod Goodness
 pub mod Lowest
+pub mod Growing

@@ -1,2 +1,3 @@
--- Sets of states.
+-- Sets of states, and the two rooms.
 pub mod Sets
+pub mod Rooms

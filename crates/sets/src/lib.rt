@@ -34,6 +34,7 @@ impl States {
     }
 }
 
+// The states of either set.
 pub fn union(a: u64, b: u64) -> u64
     ensures { λ r. ⌜ r ≡ bitOr a b ⌝ }
 {

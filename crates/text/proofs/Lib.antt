@@ -1,4 +1,3 @@
--- Laws that belong to no one function: of putting, of decimals, of the words of a line.
-pub mod Putting
+-- Laws that belong to no one function: of decimals, of the words of a line.
 pub mod Decimal
 pub mod Lines

@@ -1,2 +1,2 @@
--- Decimals, words and lines as bytes, and bytes put into a buffer.
+-- Decimals, words and lines as bytes.
 pub mod Text

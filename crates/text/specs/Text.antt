@@ -1,21 +1,18 @@
--- What people read, as bytes, and how bytes stand in a buffer. The laws that say what each word means stand in proofs/.
+-- What people read, as bytes. The laws that say what each word means stand in proofs/.
 --   word "SAME"   the bytes of a word, one for each ASCII character
 --   decimal v     the 64-bit number v in decimal: its digits read back as v (`decimal-reads`, `decimal-injective`), each byte is a digit
 --                 (`decimal-digits`), there are 1 to 20 of them (`decimal-some`, `decimal-short`), and none but 0 begins with a zero (`decimal-leads`)
 --   spaced ws     each word with a space in front
 --   joined ws     the words with single spaces between them
 --   line ws       the words with single spaces between them, and a newline (`joined-one`, `joined-more`, `line-of-three`)
---   Put before at bytes next after
---                 the bytes stand in the list from the place at on, and next is the place after them; all else is as it was
---                 (`put-found`, `put-front`, `put-back`), and nothing is left open (`put-determined`)
-use mathlib.Core.Path.{_≡_}
+--   refusalText number place
+--                 the line of a refusal: `REFUSED`, its number and its place
 use mathlib.Core.Bool.{cond}
 use mathlib.Core.List.{List, [], _∷_, _++_}
-use Prim.Native.Nat.{ℕ, zero, suc, _+_, _/_, _%_, _≤_}
+use Prim.Native.Nat.{ℕ, zero, suc, _+_, _/_, _%_}
 use Prim.Native.Char.{code}
 use Prim.Native.String.{String, [] as none, _∷_ as _then_}
 use lib.Dec.{ltb}
-use lib.ListN.{length, take, drop}
 
 abbrev pub word : String → List ℕ
 word none = []
@@ -45,7 +42,5 @@ joined (w ∷ ws) = w ++ spaced ws
 unfoldable pub line : List (List ℕ) → List ℕ
 line ws = joined ws ++ word "\n"
 
-pub record Put (before : List ℕ) (at : ℕ) (bytes : List ℕ) (next : ℕ) (after : List ℕ) : Type 0 where
-  pub ends : next ≡ at + length bytes
-  pub within : next ≤ length before
-  pub stored : after ≡ take at before ++ bytes ++ drop next before
+unfoldable pub refusalText : ℕ → ℕ → List ℕ
+refusalText number place = line (word "REFUSED" ∷ decimal number ∷ decimal place ∷ [])

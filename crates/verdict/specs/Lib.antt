@@ -1,2 +1,3 @@
--- What a test says, and tests made in order.
+-- What a test says, tests made in order, and the lines of the table of refusals.
 pub mod Tests
+pub mod Lines

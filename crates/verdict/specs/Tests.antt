@@ -1,7 +1,7 @@
--- What a test says, and tests made in order. Refusals are document 01's numbers, 10 and up.
+-- What a test says, and tests made in order. Refusals are by the numbers of the scope (§7).
 use mathlib.Core.Path.{_≡_}
 use mathlib.Core.Bool.{Bool, true, false}
-use mathlib.Core.List.{List, [], _∷_, map}
+use mathlib.Core.List.{List, [], _∷_, map, List·Memᴰ}
 use Prim.Native.Nat.{ℕ}
 use Rattle.verdict.specs.declared.Verdict.{Verdict}
 use Rattle.verdict.specs.declared.Verdict.the-variants.{Fine, Against}
@@ -20,6 +20,10 @@ inOrder (Against w ∷ tests) = Against w
 -- one test of each value, in the order of the list
 unfoldable pub each : (ℕ → Verdict) → List ℕ → Verdict
 each test values = inOrder (map test values)
+
+-- the verdict refuses only by these numbers
+pub record Among (numbers : List ℕ) (v : Verdict) : Type 0 where
+  pub among : (w : ℕ) → v ≡ Against w → List·Memᴰ w numbers
 
 -- the flag says whether A holds
 pub record Decides (A : Type 0) (flag : Bool) : Type 0 where

@@ -1,4 +1,4 @@
-// What a test says of what it is shown: nothing against it, or a refusal by document 01's number.
+// What a test says of what it is shown: nothing against it, or a refusal by the scope's number (§7).
 ghost use mathlib.Core.Path.{_≡_};
 ghost use Rattle.verdict.specs.Tests;
 

@@ -1,6 +1,7 @@
 -- A walk that computes: what it gives is the outcome of the walk. Assumes nothing.
-use mathlib.Core.Path.{_≡_, refl, sym, ap, _∙_, subst}
-use mathlib.Core.Bool.{Bool, true, false, _&&_, Bool·beq, true≢false, and-eq-true-iff}
+use mathlib.Core.Path.{_≡_, refl}
+use mathlib.Core.Logic.{_↔_}
+use mathlib.Core.Bool.{Bool, true, false, Bool·beq}
 use mathlib.Core.List.{List, [], _∷_, _++_}
 use mathlib.Core.Option.{Option}
 use mathlib.Core.Option.Option.{some}
@@ -10,11 +11,9 @@ use lib.ListN.{length, getD}
 use lib.Dec.{eqb, ltb}
 use borrow.Author.Tests.{eqb-true, eqb-false, ltb-true, ltb-false}
 use Rattle.pattern.specs.Language.{accepts}
-use Rattle.sets.proofs.Inclusion.{within-refl}
-use Rattle.congruence.specs.Congruence.{Listed}
-use Rattle.congruence.specs.Congruence.Congruent.{same}
-use Rattle.congruence.specs.Closing.{Closes}
 use Rattle.congruence.proofs.Deciding.{closing-decides}
+use Rattle.congruence.proofs.Computed.{closing, closing-closes}
+use Rattle.verdict.proofs.Flags.{flags-yes, flags-no}
 use Rattle.walk.specs.Walk.{Question, Record, leftsOf, rightsOf, parentsOf, lettersOf, candidate, candidates, Position, upcoming, Remains, Implied, Agrees, Moves, Path, Word, Outcome, Ends, Moved, Walk}
 use Rattle.walk.specs.Walk.Moves.{skipped}
 use Rattle.walk.specs.Walk.Path.{start, further}
@@ -22,27 +21,6 @@ use Rattle.walk.specs.Walk.Word.{first, later}
 use Rattle.walk.specs.Walk.Outcome.{Same, Different, Full}
 use Rattle.walk.specs.Walk.Ends.{different, full}
 use Rattle.walk.specs.Walk.Moved.{stay, go}
-use Rattle.walk.proofs.Closings.{pass, Grows, grows-trans, pass-grows, pass-closed}
-
--- ---- closing by so many passes
-
-unfoldable pub passes : ℕ → List Record → ℕ → ℕ
-passes zero rs m = m
-passes (suc f) rs m = passes f rs (pass rs m)
-
-passes-grow : (f : ℕ) (rs : List Record) (m : ℕ) → Grows (Listed (leftsOf rs) (rightsOf rs)) m (passes f rs m)
-unfolding passes
-passes-grow zero rs m = record { within = within-refl m; congruent = same m }
-passes-grow (suc f) rs m = grows-trans (pass-grows rs (λ a b q. q) m) (passes-grow f rs (pass rs m))
-
--- if the passes came to an end, the set is closed
-closed-by : (f : ℕ) (rs : List Record) (x : ℕ) → pass rs (passes f rs x) ≡ passes f rs x → Closes (Listed (leftsOf rs) (rightsOf rs)) x (passes f rs x)
-closed-by f rs x e =
-    let g = passes-grow f rs x in
-    record { within = g .within; congruent = g .congruent; still = pass-closed rs (passes f rs x) e }
-
-pub closing-computed : (f : ℕ) (rs : List Record) (x c : ℕ) → passes f rs x ≡ c → pass rs c ≡ c → Closes (Listed (leftsOf rs) (rightsOf rs)) x c
-closing-computed f rs x c e s = subst (Closes (Listed (leftsOf rs) (rightsOf rs)) x) e (closed-by f rs x (ap (pass rs) e ∙ s ∙ sym e))
 
 -- ---- one candidate
 
@@ -52,23 +30,23 @@ pub data Next : Type 0 where
   tells : Next
   fills : Next
   ends : Next
-  lost : Next
 
--- by the tests: a candidate is left, the closing came to an end, the closed sets are equal, the sides agree, there is room
-unfoldable pub pick : Bool → Bool → Bool → Bool → Bool → Next
-pick false closed equal agree roomy = ends
-pick true false equal agree roomy = lost
-pick true true true agree roomy = skips
-pick true true false false roomy = tells
-pick true true false true true = keeps
-pick true true false true false = fills
+-- by the tests: a candidate is left, its sides close to one set, they agree, there is room
+unfoldable pub pick : Bool → Bool → Bool → Bool → Next
+pick false equal agree roomy = ends
+pick true true agree roomy = skips
+pick true false false roomy = tells
+pick true false true true = keeps
+pick true false true false = fills
+
+-- a set closed by the kept pairs
+abbrev closed : List Record → ℕ → ℕ
+closed kept set = closing (leftsOf kept) (rightsOf kept) set
 
 unfoldable pub next-of : Question → ℕ → List Record → ℕ → Next
 next-of Q room kept e =
     let r = candidate Q kept e in
-    let a = passes 64 kept (r .left) in
-    let b = passes 64 kept (r .right) in
-    pick (ltb e (candidates Q kept)) (eqb (pass kept a) a && eqb (pass kept b) b) (eqb a b)
+    pick (ltb e (candidates Q kept)) (eqb (closed kept (r .left)) (closed kept (r .right)))
     (Bool·beq (accepts (Q .pattern) (r .left) []) (accepts (Q .pattern) (r .right) [])) (ltb (length kept) room)
 
 abbrev at : List Record → ℕ → Position
@@ -80,49 +58,35 @@ Justified Q room p keeps = Remains Q p × (Implied (p .kept) (upcoming Q p) → 
 Justified Q room p tells = Remains Q p × (Implied (p .kept) (upcoming Q p) → ⊥) × (Agrees Q (upcoming Q p) → ⊥)
 Justified Q room p fills = Remains Q p × (Implied (p .kept) (upcoming Q p) → ⊥) × Agrees Q (upcoming Q p) × (room ≤ length (p .kept))
 Justified Q room p ends = Remains Q p → ⊥
-Justified Q room p lost = Unit {0}
 
 -- what the tests say
-record Tested (Q : Question) (room : ℕ) (p : Position) (left closed equal agree roomy : Bool) : Type 0 where
+record Tested (Q : Question) (room : ℕ) (p : Position) (left equal agree roomy : Bool) : Type 0 where
   left-yes : left ≡ true → Remains Q p
   left-no : left ≡ false → Remains Q p → ⊥
-  equal-yes : closed ≡ true → equal ≡ true → Implied (p .kept) (upcoming Q p)
-  equal-no : closed ≡ true → equal ≡ false → Implied (p .kept) (upcoming Q p) → ⊥
+  equal-yes : equal ≡ true → Implied (p .kept) (upcoming Q p)
+  equal-no : equal ≡ false → Implied (p .kept) (upcoming Q p) → ⊥
   agree-yes : agree ≡ true → Agrees Q (upcoming Q p)
   agree-no : agree ≡ false → Agrees Q (upcoming Q p) → ⊥
   roomy-yes : roomy ≡ true → length (p .kept) < room
   roomy-no : roomy ≡ false → room ≤ length (p .kept)
 
-picked : {Q : Question} {room : ℕ} {p : Position} (left closed equal agree roomy : Bool) → Tested Q room p left closed equal agree roomy
-    → Justified Q room p (pick left closed equal agree roomy)
+picked : {Q : Question} {room : ℕ} {p : Position} (left equal agree roomy : Bool) → Tested Q room p left equal agree roomy
+    → Justified Q room p (pick left equal agree roomy)
 unfolding pick
-picked false closed equal agree roomy t = t .left-no refl
-picked true false equal agree roomy t = tt
-picked true true true agree roomy t = (t .left-yes refl, t .equal-yes refl refl)
-picked true true false false roomy t = (t .left-yes refl, t .equal-no refl refl, t .agree-no refl)
-picked true true false true true t = (t .left-yes refl, t .equal-no refl refl, t .agree-yes refl, t .roomy-yes refl)
-picked true true false true false t = (t .left-yes refl, t .equal-no refl refl, t .agree-yes refl, t .roomy-no refl)
-
-flags-yes : (a b : Bool) → Bool·beq a b ≡ true → a ≡ b
-flags-yes true true e = refl
-flags-yes true false e = sym e
-flags-yes false true e = e
-flags-yes false false e = refl
-
-flags-no : (a b : Bool) → Bool·beq a b ≡ false → a ≡ b → ⊥
-flags-no true true e z = true≢false e
-flags-no true false e z = true≢false z
-flags-no false true e z = true≢false (sym z)
-flags-no false false e z = true≢false e
+picked false equal agree roomy t = t .left-no refl
+picked true true agree roomy t = (t .left-yes refl, t .equal-yes refl)
+picked true false false roomy t = (t .left-yes refl, t .equal-no refl, t .agree-no refl)
+picked true false true true t = (t .left-yes refl, t .equal-no refl, t .agree-yes refl, t .roomy-yes refl)
+picked true false true false t = (t .left-yes refl, t .equal-no refl, t .agree-yes refl, t .roomy-no refl)
 
 justified : (Q : Question) (room : ℕ) (kept : List Record) (e : ℕ) → Justified Q room (at kept e) (next-of Q room kept e)
 unfolding next-of
 justified Q room kept e =
-    picked (ltb e (candidates Q kept)) (eqb (pass kept a) a && eqb (pass kept b) b) (eqb a b) (Bool·beq s t) (ltb (length kept) room) (record {
+    picked (ltb e (candidates Q kept)) (eqb (closed kept (r .left)) (closed kept (r .right))) (Bool·beq s t) (ltb (length kept) room) (record {
       left-yes = ltb-true _ _;
       left-no = λ z h. let g = ltb-false e (candidates Q kept) z in omega arith;
-      equal-yes = λ c z. closing-decides (closed-a c) (closed-b c) .1 (eqb-true a b z);
-      equal-no = λ c z h. eqb-false a b z (closing-decides (closed-a c) (closed-b c) .0 h);
+      equal-yes = λ z. decided .1 (eqb-true _ _ z);
+      equal-no = λ z h. eqb-false _ _ z (decided .0 h);
       agree-yes = flags-yes s t;
       agree-no = flags-no s t;
       roomy-yes = ltb-true _ _;
@@ -132,23 +96,14 @@ justified Q room kept e =
     r : Record
     r = candidate Q kept e
 
-    a : ℕ
-    a = passes 64 kept (r .left)
-
-    b : ℕ
-    b = passes 64 kept (r .right)
-
     s : Bool
     s = accepts (Q .pattern) (r .left) []
 
     t : Bool
     t = accepts (Q .pattern) (r .right) []
 
-    closed-a : (eqb (pass kept a) a && eqb (pass kept b) b) ≡ true → Closes (Listed (leftsOf kept) (rightsOf kept)) (r .left) a
-    closed-a c = closed-by 64 kept (r .left) (eqb-true (pass kept a) a (and-eq-true-iff (eqb (pass kept a) a) (eqb (pass kept b) b) .0 c .0))
-
-    closed-b : (eqb (pass kept a) a && eqb (pass kept b) b) ≡ true → Closes (Listed (leftsOf kept) (rightsOf kept)) (r .right) b
-    closed-b c = closed-by 64 kept (r .right) (eqb-true (pass kept b) b (and-eq-true-iff (eqb (pass kept a) a) (eqb (pass kept b) b) .0 c .1))
+    decided : Implied kept r ↔ (closed kept (r .left) ≡ closed kept (r .right))
+    decided = closing-decides (closing-closes (leftsOf kept) (rightsOf kept) (r .left)) (closing-closes (leftsOf kept) (rightsOf kept) (r .right))
 
 -- ---- paths
 
@@ -224,7 +179,6 @@ play (suc f) keeps Q room kept e =
 play (suc f) tells Q room kept e = told kept e (word-to Q kept e)
 play (suc f) fills Q room kept e = some (Full kept (suc e))
 play (suc f) ends Q room kept e = some (Same kept e)
-play (suc f) lost Q room kept e = Option.none
 
 unfoldable pub walk : ℕ → Question → ℕ → Option Outcome
 walk f Q room = play f (next-of Q room [] 0) Q room [] 0
@@ -261,7 +215,6 @@ play-sound {Q} {room} (suc f) fills kept e o j q =
 play-sound {Q} {room} (suc f) ends kept e o j q =
     let z : Same kept e ≡ o = cc in
     record { last = at kept e; moved = stay; finish = rw (← z) (Ends.same j) }
-play-sound (suc f) lost kept e o j q = never q
 
 pub walk-computed : (f : ℕ) (Q : Question) (room : ℕ) (o : Outcome) → walk f Q room ≡ some o → Walk Q room o
 unfolding walk

@@ -12,12 +12,11 @@ use Rattle.pattern.specs.Language.Over.{empty}
 use Rattle.congruence.specs.Congruence.{Congruent, Listed}
 use Rattle.congruence.specs.Congruence.Congruent.{back, on}
 use Rattle.congruence.proofs.Laws.{of-equal}
-use Rattle.walk.specs.Walk.{Question, Record, leftsOf, rightsOf, Position, upcoming, Remains, Implied, Moves, Outcome, Ends, Moved, Walk}
+use Rattle.walk.specs.Walk.{Question, Record, leftsOf, rightsOf, Position, upcoming, Remains, Implied, Moves, Outcome, keptOf, Ends, Moved, Walk}
 use Rattle.walk.specs.Walk.Moves.{skipped}
 use Rattle.walk.specs.Walk.Outcome.{Full}
 use Rattle.walk.specs.Walk.Ends.{same, different, full}
 use Rattle.walk.specs.Walk.Moved.{stay, go}
-use Rattle.walk.specs.Answers.{keptOf}
 use Rattle.walk.specs.Meaning.{Covers}
 use Rattle.walk.proofs.Sound.{Sound, sound-begin, sound-move, walk-sound, congruent-more, implied-last}
 use Rattle.walk.proofs.Leading.{leads, has-word}
@@ -44,7 +43,7 @@ without {y} (List·Memᴰ·tail {x} {xs} m) =
     other r z f (List·Memᴰ·head g) = List·Memᴰ·head g
     other r z f (List·Memᴰ·tail k) = List·Memᴰ·tail (r .others z f k)
 
-some : {y : ℕ} {l : List ℕ} → List·Memᴰ y l → 0 < length l
+pub some : {y : ℕ} {l : List ℕ} → List·Memᴰ y l → 0 < length l
 some (List·Memᴰ·head e) = omega arith
 some (List·Memᴰ·tail m) = omega arith
 
@@ -149,4 +148,4 @@ module _ {Q : Question} {room : ℕ} {sets : List ℕ} (sized : Sized (Q .patter
   pub never-full : {kept : List Record} {e : ℕ} → length sets ≤ room + 1 → Walk Q room (Full kept e) → ⊥
   never-full h w =
       let g = few-full (sized .some-letter) covers (walk-sound sized w) (labelled w) (w .ends) in
-      omega (arith, g, counts sized w)
+      omega (arith, g, counts sized w .by-answer)

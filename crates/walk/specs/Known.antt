@@ -1,4 +1,4 @@
--- Document 01's questions with known answers: the starred rows.
+-- The scope's questions with known answers (§11).
 use mathlib.Core.List.{List, [], _∷_}
 use Prim.Native.Nat.{ℕ}
 use Rattle.congruence.specs.Congruence.{Listed}

@@ -1,6 +1,5 @@
--- The walk, the comparison's answers, and what its theorems speak of; then what only the private functions cite, and the known answers.
+-- The walk, a list of records column by column, what the theorems over the walk speak of, and the known answers.
 pub mod Walk
-pub mod Answers
+pub mod Columns
 pub mod Meaning
-pub mod Inner
 pub mod Known

@@ -1,10 +1,11 @@
--- The walk of document 01, as a relation. It cites congruence and the language, and runs neither the closing nor any code.
+-- The walk of the scope (§5), as a relation. It cites congruence and the language, and runs neither the closing nor any code.
 --   Question     two sets of states, X and Y, of one pattern
 --   Record       a kept record; leftsOf, rightsOf, parentsOf and lettersOf are the columns of a list of records
 --   candidate    the candidate of a number, by the records kept
 --   Position     what the walk has done: the records kept, and how many candidates it has examined
 --   Moves        a candidate is dealt with and the walk goes on: rules 1 and 4, from any position
 --   Path, Word   the letters from the start to a record, and to a candidate
+--   Outcome      what the walk comes to; keptOf, wordOf and examinedOf are its parts
 --   Ends         the walk stops: rules 2 and 3, or no candidate is left
 --   Walk         moves from the beginning, and an end: every valid question has one outcome (`walk-ends`, `walk-unique`)
 use mathlib.Core.Path.{_≡_}
@@ -109,6 +110,22 @@ pub data Outcome : Type 0 where
   Same : List Record → ℕ → Outcome
   Different : List Record → ℕ → List ℕ → Outcome
   Full : List Record → ℕ → Outcome
+
+-- the parts of an outcome; there is no sequence but for DIFFERENT
+abbrev pub keptOf : Outcome → List Record
+keptOf (Same records examined) = records
+keptOf (Different records examined word) = records
+keptOf (Full records examined) = records
+
+abbrev pub wordOf : Outcome → List ℕ
+wordOf (Same records examined) = []
+wordOf (Different records examined word) = word
+wordOf (Full records examined) = []
+
+abbrev pub examinedOf : Outcome → ℕ
+examinedOf (Same records examined) = examined
+examinedOf (Different records examined word) = examined
+examinedOf (Full records examined) = examined
 
 -- no candidate is left: SAME
 -- 2. not congruent, and exactly one side accepts the empty sequence: stop, DIFFERENT

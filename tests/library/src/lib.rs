@@ -15,7 +15,7 @@ pub mod calls;
 
 pub mod cases;
 pub mod faults;
-pub mod rounds;
+pub use reference::rounds;
 
 /// The wrapper's page: its examples are run with these tests.
 #[cfg(doctest)]

@@ -1,13 +1,15 @@
 //! Runs a program of the project on some standard input and gives what it wrote.
 
-use std::io::{Read, Write};
+use std::fs::{self, File};
+use std::io::{Read, Seek, Write};
 use std::path::PathBuf;
-use std::process::{Child, Command, Stdio};
+use std::process::{self, Child, Command, Stdio};
+use std::sync::atomic::{AtomicU32, Ordering};
 use std::thread;
 use std::time::Duration;
 
 /// The program as `rt check` linked it.
-fn program(name: &str) -> PathBuf {
+pub fn program(name: &str) -> PathBuf {
     let path = PathBuf::from(env!("CARGO_MANIFEST_DIR"))
         .join("../../target/bin")
         .join(name);
@@ -55,4 +57,25 @@ pub fn written_for_pieces(name: &str, pieces: &[&[u8]], pause: Duration) -> Vec<
 /// What the program writes for an input that comes at once.
 pub fn written_for(name: &str, input: &[u8]) -> Vec<u8> {
     written_for_pieces(name, &[input], Duration::ZERO)
+}
+
+/// What the program writes where its input is a regular file with the given bytes, and how many of
+/// them it has read: the offset of the file is shared with the program.
+pub fn written_for_file(name: &str, input: &[u8]) -> (Vec<u8>, u64) {
+    static FILES: AtomicU32 = AtomicU32::new(0);
+    let number = FILES.fetch_add(1, Ordering::Relaxed);
+    let path = std::env::temp_dir().join(format!("{name}-{}-{number}", process::id()));
+    fs::write(&path, input).expect("the file is written");
+    let mut file = File::open(&path).expect("the file is opened");
+    fs::remove_file(&path).expect("the file's name is removed");
+    let shared = file.try_clone().expect("the file is shared");
+    let output = Command::new(program(name))
+        .stdin(shared)
+        .output()
+        .expect("the program runs");
+    assert!(output.status.success());
+    (
+        output.stdout,
+        file.stream_position().expect("it has an offset"),
+    )
 }

@@ -1,10 +1,10 @@
-//! The answer numbers of document 01, each with its name.
+//! The answer numbers of the scope, §7, each with its name.
 
 macro_rules! answers {
     ($($constant:ident = $number:literal, $name:literal, $when:literal;)*) => {
         $(#[doc = $when] pub const $constant: u64 = $number;)*
 
-        /// Every answer number with the name that document 01 gives it.
+        /// Every answer number with the name that the scope gives it.
         pub const NAMES: &[(u64, &str)] = &[$(($constant, $name)),*];
     };
 }

@@ -1,8 +1,8 @@
-//! The rules of document 01 written plainly, as a yardstick for the library and the program.
+//! The rules of the scope written plainly, as a yardstick for the library and the program.
 //!
 //! In reading order: the rules themselves (`answers` to `report`), then an
 //! independent judge of equivalence (`subsets`), then what tests draw their
-//! questions from (`random`, `questions`, `damage`).
+//! questions from (`random`, `questions`, `damage`) and how much they run (`rounds`).
 //!
 //! Nothing here is proved and nothing is made fast. Every function is total:
 //! whatever numbers come in, an answer goes out.
@@ -29,3 +29,4 @@ pub mod subsets;
 pub mod damage;
 pub mod questions;
 pub mod random;
+pub mod rounds;

@@ -5,7 +5,7 @@ use native.Mathlib.Omega.{arith}
 use borrow.Author.Needs.{needs}
 use lib.ListN.{length}
 use Rattle.text.specs.Text.{decimal}
-use Rattle.text.proofs.Putting.{put-as, put-then}
+use Rattle.lent.proofs.Putting.{put-as, put-then}
 use Rattle.events.specs.Events.{eventName}
 use Rattle.events.proofs.Table.{row-is}
 use Rattle.events.proofs.Names.{name-high, name-short}

@@ -4,9 +4,10 @@ use Prim.Native.Nat.{_-_}
 use native.Mathlib.Omega.{arith}
 use borrow.Author.Needs.{needs}
 use borrow.Author.Tests.{not-true, not-false}
+use Rattle.verdict.proofs.Flags.{decided-yes, decided-no, flags-differ, flags-agree}
 use Rattle.pattern.specs.Pattern.{patternOf}
 use Rattle.pattern.specs.Language.{accepts, reach}
-use Rattle.evidence.proofs.Searching.{decided-yes, decided-no, flags-differ, flags-agree, Stepped, stepped-none, stepped-more, stepped-apart, stepped-all}
+use Rattle.evidence.proofs.Searching.{Stepped, stepped-none, stepped-more, stepped-apart, stepped-all}
 use Rattle.evidence.proofs.holds.Statement.{statement}
 use Rattle.evidence.proofs.holds.Tie as tie
 

@@ -5,7 +5,8 @@ use native.Mathlib.Omega.{arith}
 use lib.ListN.{length}
 use borrow.Author.Needs.{needs}
 use borrow.Author.Tests.{eqb-true, eqb-false}
-use Rattle.evidence.proofs.Searching.{decided-yes, decided-no, Unlisted, unlisted-none, unlisted-more, unlisted-all}
+use Rattle.verdict.proofs.Flags.{decided-yes, decided-no}
+use Rattle.evidence.proofs.Searching.{Unlisted, unlisted-none, unlisted-more, unlisted-all}
 use Rattle.evidence.proofs.starts.Statement.{statement}
 use Rattle.evidence.proofs.starts.Tie as tie
 

@@ -21,8 +21,8 @@ enum-told c = search needs
 
 reached-requires : tie.Need-reached-requires
 reached-requires c κs =
-    let (valid, good, over) = judge-fine _ _ _ (sym (c .before .before .judge-test .ensures) ∙ c .enum-told .given .1) in
-    (valid .sized .states-fit, (valid .tabled, over))
+    let question = judge-fine _ _ _ .0 (sym (c .before .before .judge-test .ensures) ∙ c .enum-told .given .1) in
+    (question .valid .sized .states-fit, (question .valid .tabled, question .letters-below))
 
 meets-requires : tie.Need-meets-requires
 meets-requires c κs = search needs

@@ -1,5 +1,4 @@
 -- `pattern::reached` follows the sequence letter by letter.
-use mathlib.Core.Path.{refl, _∙_, ap}
 use Prim.Native.Nat.{_-_}
 use borrow.Author.Needs.{needs}
 use native.Mathlib.Omega.{arith}
@@ -10,10 +9,10 @@ use Rattle.pattern.proofs.reached.Statement.{statement}
 use Rattle.pattern.proofs.reached.Tie as tie
 
 abbrev Inv-loop : tie.InvT-loop
-Inv-loop states letters rows set sequence at₀ i₀ at i = Following states letters rows set sequence at i
+Inv-loop states letters rows set sequence at₀ read₀ at read = Following states letters rows set sequence at read
 
 abbrev μ-loop : tie.MeasureT-loop
-μ-loop states letters rows set sequence at₀ i₀ at i = length sequence - i
+μ-loop states letters rows set sequence at₀ read₀ at read = length sequence - read
 
 loop-holds : tie.Need-loop-holds Inv-loop μ-loop
 loop-holds c = following-first
@@ -28,10 +27,10 @@ next-requires : tie.Need-next-requires Inv-loop μ-loop
 next-requires c κs =
     let turn = c .before .before in
     let (fit, (table, over)) = turn .before .before .before .before .pre in
-    (fit, (table, rw (c .wide .ensures) (over-at over (turn .before .loop .i) (turn .loop-test .taken))))
+    (fit, (table, rw (c .wide .ensures) (over-at over (turn .before .loop .read) (turn .loop-test .taken))))
 
-add-i : tie.Need-add-i Inv-loop μ-loop
-add-i c = omega arith
+add-read : tie.Need-add-read Inv-loop μ-loop
+add-read c = omega arith
 
 loop-less : tie.Need-loop-less Inv-loop μ-loop
 loop-less c = omega arith
@@ -54,7 +53,7 @@ reached-spec =
     shared-slice-read-wide
     wide-requires
     next-requires
-    add-i
+    add-read
     loop-less
     loop-again
     returns)

@@ -22,7 +22,7 @@ row c =
 loop-holds : tie.Need-loop-holds Inv-loop μ-loop
 loop-holds c =
     let start = c .before .before in
-    filling-first (start .args .bytes .now) (start .args .at) (start .args .count) (start .args .rows .now)
+    filling-first (start .args .bytes .now) (start .args .at) (start .args .count) (start .args .rows .now) (start .pre)
 
 read-requires : tie.Need-read-requires Inv-loop μ-loop
 read-requires c κs = search needs
@@ -59,7 +59,7 @@ loop-less c = omega arith
 loop-again : tie.Need-loop-again Inv-loop μ-loop
 loop-again c =
     let read = c .before .before .before in
-    filling-step (read .before .before .loop .inv) (read .before .loop-test .taken) (read .read .ensures) (c .before .row .given .1)
+    filling-step (read .before .before .loop .inv) (read .before .loop-test .taken) (row (read .before)) (read .read .ensures) (c .before .row .given .1)
 
 same-length-2 : tie.Need-same-length-2 Inv-loop μ-loop
 same-length-2 c = c .before .loop .inv .long

@@ -1,12 +1,11 @@
 -- `patternfile::judge` goes through the format: at each place `Reached` says what has been read and what is still to be read.
 use Prim.Native.Nat.{ℕ, _*_}
 use mathlib.Core.List.{List, [], _∷_, _++_}
-use native.Mathlib.Omega.{arith}
 use borrow.Author.Needs.{needs}
 use Rattle.pattern.specs.Tests.{setTest}
 use Rattle.numbers.specs.Format.{ended, item, many}
-use Rattle.numbers.proofs.Steps.{Reached, reached-item, stopped-item, stopped-tail}
-use Rattle.patternfile.specs.PatternFile.{startsFormat, afterLetters, patternFormat}
+use Rattle.numbers.proofs.Steps.{Reached, reached-item, stopped-item}
+use Rattle.patternfile.specs.PatternFile.{startsThen, setsThen, afterLetters, patternFormat}
 use Rattle.patternfile.proofs.Judging.{rowsFrom, goes-up, to-states, sizes-fine, to-room, stop-room, to-finals, stop-rows, rows-tabled, to-x, all-read}
 use Rattle.patternfile.proofs.judge.Statement.{statement}
 use Rattle.patternfile.proofs.judge.Tie as tie
@@ -35,7 +34,7 @@ module _ (c : tie.After-index2) where
   abbrev letters : ℕ
   letters = c .index2 .result
 
-  at-room : Reached (patternFormat (room start-k)) (bytes start-k) (states ∷ letters ∷ []) (afterLetters (room start-k) states letters) (has-k .k-read .given .0 .1 .0)
+  at-room : Reached (patternFormat (room start-k)) (bytes start-k) (states ∷ letters ∷ []) (afterLetters (room start-k) states letters ended) (has-k .k-read .given .0 .1 .0)
   at-room =
       to-room (room start-k) (bytes start-k) (has-n .before .before .read-size .ensures) (has-n .n-read .given .1) (has-k .before .before .read-size2 .ensures) (has-k .k-read .given .1)
       (c .before .index .ensures) (c .index2 .ensures)
@@ -50,7 +49,7 @@ module _ (c : tie.Else1) where
   start-room = start-k sized
 
   at-finals : Reached (patternFormat (room start-room)) (bytes start-room) (states sized ∷ letters sized ∷ [])
-      (item (setTest (states sized)) (λ finals. many (states sized * letters sized) (setTest (states sized)) (startsFormat (states sized)))) (has-k sized .k-read .given .0 .1 .0)
+      (setsThen (states sized) (letters sized) ended) (has-k sized .k-read .given .0 .1 .0)
   at-finals = to-finals (room start-room) (bytes start-room) (states sized) (letters sized) (at-room sized) (c .before .product .ensures) (c .if1 .left)
 
 -- ---- the finals are read
@@ -71,7 +70,7 @@ module _ (c : tie.After-finals-read) where
   abbrev from : ℕ
   from = c .finals-read .given .0 .1 .0
 
-  at-rows : Reached (patternFormat (room (start-room roomy))) (bytes (start-room roomy)) (n ∷ k ∷ finals ∷ []) (many (n * k) (setTest n) (startsFormat n)) from
+  at-rows : Reached (patternFormat (room (start-room roomy))) (bytes (start-room roomy)) (n ∷ k ∷ finals ∷ []) (many (n * k) (setTest n) (startsThen n ended)) from
   at-rows = reached-item (at-finals roomy) (c .before .before .read-set .ensures) (c .finals-read .given .1)
 
 -- ---- the rows are passed
@@ -86,7 +85,7 @@ module _ (c : tie.After-rows-passed) where
   abbrev rows : List ℕ
   rows = rowsFrom (bytes start-rows) (n has-finals) (k has-finals) (from has-finals)
 
-  at-x : Reached (patternFormat (room start-rows)) (bytes start-rows) (n has-finals ∷ k has-finals ∷ finals has-finals ∷ rows) (startsFormat (n has-finals)) (c .rows-passed .given .0 .1 .0)
+  at-x : Reached (patternFormat (room start-rows)) (bytes start-rows) (n has-finals ∷ k has-finals ∷ finals has-finals ∷ rows) (startsThen (n has-finals) ended) (c .rows-passed .given .0 .1 .0)
   at-x =
       to-x (room start-rows) (bytes start-rows) (n has-finals) (k has-finals) (at-rows has-finals) (roomy has-finals .before .product .ensures) (c .before .before .pass-sets .ensures) (c .rows-passed .given .1)
 
@@ -125,15 +124,15 @@ enum-known-n-read c = search needs
 enum-told : tie.Need-enum-told
 enum-told c = search needs
 
-refused-requires : tie.Need-refused-requires
-refused-requires c κs = search needs
+stopped-requires : tie.Need-stopped-requires
+stopped-requires c κs = search needs
 
 returns : tie.Need-returns
 returns c =
     let fault = c .before in
     let read = fault .before .before in
     let s = read .before .before in
-    goes-up (room s) (bytes s) (c .refused .ensures) (fault .enum-told .given .1) (stopped-item (to-states (room s) (bytes s)) (read .read-size .ensures) (fault .enum-told .given .1))
+    goes-up (room s) (bytes s) (c .stopped .ensures) (fault .enum-told .given .1) (stopped-item (to-states (room s) (bytes s)) (read .read-size .ensures) (fault .enum-told .given .1))
 
 read-size-requires-2 : tie.Need-read-size-requires-2
 read-size-requires-2 c κs = search needs
@@ -144,8 +143,8 @@ enum-known-k-read c = search needs
 enum-told-2 : tie.Need-enum-told-2
 enum-told-2 c = search needs
 
-refused-requires-2 : tie.Need-refused-requires-2
-refused-requires-2 c κs = search needs
+stopped-requires-2 : tie.Need-stopped-requires-2
+stopped-requires-2 c κs = search needs
 
 returns-2 : tie.Need-returns-2
 returns-2 c =
@@ -153,7 +152,7 @@ returns-2 c =
     let read = fault .before .before in
     let one = read .before .before in
     let s = one .before .before .before .before in
-    goes-up (room s) (bytes s) (c .refused2 .ensures) (fault .enum-told2 .given .1)
+    goes-up (room s) (bytes s) (c .stopped2 .ensures) (fault .enum-told2 .given .1)
     (stopped-item (reached-item (to-states (room s) (bytes s)) (one .before .before .read-size .ensures) (one .n-read .given .1)) (read .read-size2 .ensures) (fault .enum-told2 .given .1))
 
 index-requires : tie.Need-index-requires
@@ -182,15 +181,15 @@ enum-known-finals-read c = search needs
 enum-told-3 : tie.Need-enum-told-3
 enum-told-3 c = search needs
 
-refused-requires-3 : tie.Need-refused-requires-3
-refused-requires-3 c κs = search needs
+stopped-requires-3 : tie.Need-stopped-requires-3
+stopped-requires-3 c κs = search needs
 
 returns-4 : tie.Need-returns-4
 returns-4 c =
     let fault = c .before in
     let read = fault .before .before in
     let s = start-room (read .before) in
-    goes-up (room s) (bytes s) (c .refused3 .ensures) (fault .enum-told3 .given .1) (stopped-item (at-finals (read .before)) (read .read-set .ensures) (fault .enum-told3 .given .1))
+    goes-up (room s) (bytes s) (c .stopped3 .ensures) (fault .enum-told3 .given .1) (stopped-item (at-finals (read .before)) (read .read-set .ensures) (fault .enum-told3 .given .1))
 
 pass-sets-requires : tie.Need-pass-sets-requires
 pass-sets-requires c κs = search needs
@@ -201,8 +200,8 @@ enum-known-rows-passed c = search needs
 enum-told-4 : tie.Need-enum-told-4
 enum-told-4 c = search needs
 
-refused-requires-4 : tie.Need-refused-requires-4
-refused-requires-4 c κs = search needs
+stopped-requires-4 : tie.Need-stopped-requires-4
+stopped-requires-4 c κs = search needs
 
 returns-5 : tie.Need-returns-5
 returns-5 c =
@@ -210,7 +209,7 @@ returns-5 c =
     let read = fault .before .before in
     let three = read .before .before in
     let s = start-room (roomy three) in
-    goes-up (room s) (bytes s) (c .refused4 .ensures) (fault .enum-told4 .given .1)
+    goes-up (room s) (bytes s) (c .stopped4 .ensures) (fault .enum-told4 .given .1)
     (stop-rows (room s) (bytes s) (n three) (k three) (at-rows three) (roomy three .before .product .ensures) (read .pass-sets .ensures) (fault .enum-told4 .given .1))
 
 read-set-requires-2 : tie.Need-read-set-requires-2
@@ -222,8 +221,8 @@ enum-known-x-read c = search needs
 enum-told-5 : tie.Need-enum-told-5
 enum-told-5 c = search needs
 
-refused-requires-5 : tie.Need-refused-requires-5
-refused-requires-5 c κs = search needs
+stopped-requires-5 : tie.Need-stopped-requires-5
+stopped-requires-5 c κs = search needs
 
 returns-6 : tie.Need-returns-6
 returns-6 c =
@@ -231,7 +230,7 @@ returns-6 c =
     let read = fault .before .before in
     let four = read .before .before in
     let s = start-rows four in
-    goes-up (room s) (bytes s) (c .refused5 .ensures) (fault .enum-told5 .given .1) (stopped-item (at-x four) (read .read-set2 .ensures) (fault .enum-told5 .given .1))
+    goes-up (room s) (bytes s) (c .stopped5 .ensures) (fault .enum-told5 .given .1) (stopped-item (at-x four) (read .read-set2 .ensures) (fault .enum-told5 .given .1))
 
 read-set-requires-3 : tie.Need-read-set-requires-3
 read-set-requires-3 c κs = search needs
@@ -242,8 +241,8 @@ enum-known-y-read c = search needs
 enum-told-6 : tie.Need-enum-told-6
 enum-told-6 c = search needs
 
-refused-requires-6 : tie.Need-refused-requires-6
-refused-requires-6 c κs = search needs
+stopped-requires-6 : tie.Need-stopped-requires-6
+stopped-requires-6 c κs = search needs
 
 returns-7 : tie.Need-returns-7
 returns-7 c =
@@ -251,21 +250,16 @@ returns-7 c =
     let read = fault .before .before in
     let five = read .before .before in
     let s = start-rows (has-rows five) in
-    goes-up (room s) (bytes s) (c .refused6 .ensures) (fault .enum-told6 .given .1) (stopped-item (at-y five) (read .read-set3 .ensures) (fault .enum-told6 .given .1))
+    goes-up (room s) (bytes s) (c .stopped6 .ensures) (fault .enum-told6 .given .1) (stopped-item (at-y five) (read .read-set3 .ensures) (fault .enum-told6 .given .1))
 
--- TAIL
 returns-8 : tie.Need-returns-8
-returns-8 c = stopped-tail (at-end (c .before .before)) (c .if2 .taken)
-
-returns-9 : tie.Need-returns-9
-returns-9 c =
-    let six = c .before .before in
-    let four = has-rows (has-x six) in
+returns-8 c =
+    let five = c .before in
+    let four = has-rows (has-x five) in
     let three = has-finals four in
     let s = start-rows four in
-    all-read (room s) (bytes s) (rows four) (at-end six)
+    all-read (room s) (bytes s) (rows four) (at-end five)
     (rows-tabled (room s) (bytes s) (n three) (k three) (at-rows three) (roomy three .before .product .ensures) (four .before .before .pass-sets .ensures) (four .rows-passed .given .1))
-    (record { each = λ i. omega (arith, has-n (sized (roomy three)) .before .before .before .shared-slice-known .given i) }) (c .if2 .left)
 
 pub judge-spec : {M : Type 1} → statement M
 judge-spec =
@@ -274,12 +268,12 @@ judge-spec =
     read-size-requires
     enum-known-n-read
     enum-told
-    refused-requires
+    stopped-requires
     returns
     read-size-requires-2
     enum-known-k-read
     enum-told-2
-    refused-requires-2
+    stopped-requires-2
     returns-2
     index-requires
     index-requires-2
@@ -288,22 +282,21 @@ judge-spec =
     read-set-requires
     enum-known-finals-read
     enum-told-3
-    refused-requires-3
+    stopped-requires-3
     returns-4
     pass-sets-requires
     enum-known-rows-passed
     enum-told-4
-    refused-requires-4
+    stopped-requires-4
     returns-5
     read-set-requires-2
     enum-known-x-read
     enum-told-5
-    refused-requires-5
+    stopped-requires-5
     returns-6
     read-set-requires-3
     enum-known-y-read
     enum-told-6
-    refused-requires-6
+    stopped-requires-6
     returns-7
-    returns-8
-    returns-9)
+    returns-8)

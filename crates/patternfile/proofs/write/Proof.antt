@@ -1,24 +1,28 @@
--- `patternfile::write`: once the tests are passed, the three parts are put one after the other.
-use mathlib.Core.Path.{sym, refl, _∙_}
+-- `patternfile::write`: once the tests are passed, the pattern's numbers are put at the start.
+use mathlib.Core.Path.{_≡_, sym, refl, _∙_}
+use native.Mathlib.Omega.{arith}
 use borrow.Author.Needs.{needs}
+use lib.ListN.{length}
+use Rattle.verdict.specs.declared.Verdict.the-variants.{Fine}
 use Rattle.pattern.specs.Pattern.{Pattern, patternOf}
-use Rattle.patternfile.proofs.Storing.{room-head, room-rows, room-starts, writes-done}
+use Rattle.patternfile.specs.Writer.{writeTest}
+use Rattle.patternfile.proofs.Refusals.{write-fine}
 use Rattle.patternfile.proofs.write.Statement.{statement}
 use Rattle.patternfile.proofs.write.Tie as tie
+
+abbrev start : tie.After-write-test → tie.Start
+start c = c .before .before .before
 
 abbrev pattern : tie.Start → Pattern
 pattern start = patternOf (start .args .states) (start .args .letters) (start .args .finals) (start .args .rows .now)
 
--- where the tests are passed and n and k are at hand as 64-bit numbers
-module _ (c : tie.After-wide2) where
-  abbrev passed : tie.After-enum-told
-  passed = c .before .before
-
+-- where the tests are passed
+module _ (c : tie.After-enum-told) where
   abbrev tested : tie.After-write-test
-  tested = passed .before .before
+  tested = c .before .before
 
-  abbrev start : tie.Start
-  start = tested .before .before .before
+  passed : let s = start tested in writeTest (pattern s) (s .args .x) (s .args .y) (length (s .args .out .now)) ≡ Fine
+  passed = sym (tested .write-test .ensures) ∙ c .enum-told .given .1
 
 write-test-requires : tie.Need-write-test-requires
 write-test-requires c κs = search needs
@@ -34,68 +38,19 @@ returns c =
 enum-told : tie.Need-enum-told
 enum-told c = search needs
 
-wide-requires : tie.Need-wide-requires
-wide-requires c κs = search needs
-
-wide-requires-2 : tie.Need-wide-requires-2
-wide-requires-2 c κs = search needs
-
-slice-aggregate-write-all : tie.Need-slice-aggregate-write-all
-slice-aggregate-write-all c = search needs
-
-write-all-requires : tie.Need-write-all-requires
-write-all-requires c κs =
-    let w = c .before .before in
-    let args = start w .args in
-    room-head (pattern (start w)) (args .x) (args .y) (w .before .wide .ensures) (w .wide2 .ensures) (args .out .now) (tested w .write-test .ensures) (passed w .enum-told .given .1)
-
-write-all-requires-2 : tie.Need-write-all-requires-2
-write-all-requires-2 c κs =
-    let head = c .before .before .before in
-    let w = head .before .before .before in
-    let args = start w .args in
-    room-rows (pattern (start w)) (args .x) (args .y) (w .before .wide .ensures) (w .wide2 .ensures) (args .out .now) (tested w .write-test .ensures) (passed w .enum-told .given .1)
-    (head .write-all .ensures)
-
-slice-aggregate-write-all-2 : tie.Need-slice-aggregate-write-all-2
-slice-aggregate-write-all-2 c = search needs
-
-write-all-requires-3 : tie.Need-write-all-requires-3
-write-all-requires-3 c κs =
-    let rows = c .before .before .before .before in
-    let head = rows .before .before .before .before in
-    let w = head .before .before .before in
-    let args = start w .args in
-    room-starts (pattern (start w)) (args .x) (args .y) (w .before .wide .ensures) (w .wide2 .ensures) (args .out .now) (tested w .write-test .ensures) (passed w .enum-told .given .1)
-    (head .write-all .ensures) (rows .write-all2 .ensures)
+put-pattern-requires : tie.Need-put-pattern-requires
+put-pattern-requires c κs =
+    let s = start (tested (c .before)) in
+    omega (arith, write-fine (pattern s) (s .args .x) (s .args .y) (length (s .args .out .now)) .0 (passed (c .before)) .enough)
 
 same-length : tie.Need-same-length
 same-length c = search needs
 
 returns-2 : tie.Need-returns-2
 returns-2 c =
-    let end = c .before .before in
-    let rows = end .before .before .before .before .before in
-    let head = rows .before .before .before .before in
-    let w = head .before .before .before in
-    let args = start w .args in
-    writes-done (pattern (start w)) (args .x) (args .y) (w .before .wide .ensures) (w .wide2 .ensures) (args .out .now) (tested w .write-test .ensures) (passed w .enum-told .given .1)
-    (head .write-all .ensures) (rows .write-all2 .ensures) (end .write-all3 .ensures)
+    let put = c .before .before in
+    record { allowed = passed (put .before .before); written = put .put-pattern .ensures }
 
 pub write-spec : {M : Type 1} → statement M
 write-spec =
-    tie.close
-    (tie.spec
-    write-test-requires
-    enum-known-test
-    returns
-    enum-told
-    wide-requires
-    wide-requires-2
-    slice-aggregate-write-all
-    write-all-requires
-    write-all-requires-2
-    slice-aggregate-write-all-2
-    write-all-requires-3
-    same-length
-    returns-2)
+    tie.close (tie.spec write-test-requires enum-known-test returns enum-told put-pattern-requires same-length returns-2)

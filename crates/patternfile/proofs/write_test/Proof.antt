@@ -5,7 +5,7 @@ use borrow.Author.Needs.{needs}
 use lib.Dec.{leb}
 use Rattle.verdict.specs.Tests.{need}
 use Rattle.verdict.proofs.Ordered.{order-stop, order-next, order-last}
-use Rattle.patternfile.specs.PatternFile.{roomTest}
+use Rattle.pattern.specs.Tests.{spaceTest}
 use Rattle.patternfile.specs.Writer.{writeTest}
 use Rattle.patternfile.proofs.write_test.Statement.{statement}
 use Rattle.patternfile.proofs.write_test.Tie as tie
@@ -70,7 +70,7 @@ need-requires : tie.Need-need-requires
 need-requires c κs = search needs
 
 returns-4 : tie.Need-returns-4
-unfolding writeTest roomTest
+unfolding writeTest spaceTest
 returns-4 c =
     let sized = c .before in
     let third = sized .before .before .before in

@@ -1,7 +1,7 @@
 -- `pressbadger::pb_judge` gives the number of what judging answers.
 use mathlib.Core.Path.{sym, ap, _∙_}
 use borrow.Author.Needs.{needs}
-use Rattle.pressbadger.specs.Host.{judgeAnswer}
+use Rattle.pressbadger.specs.Judges.{judgeAnswer}
 use Rattle.pressbadger.proofs.pb_judge.Statement.{statement}
 use Rattle.pressbadger.proofs.pb_judge.Tie as tie
 

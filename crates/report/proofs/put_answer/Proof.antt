@@ -1,15 +1,16 @@
 -- `report::put_answer` puts the answer's first line; after SAME the records, after DIFFERENT the sequence.
 use mathlib.Core.List.{List, [], _∷_}
-use mathlib.Core.Path.{_≡_, sym}
+use mathlib.Core.Path.{sym}
 use Prim.Native.Nat.{ℕ, _<_, _≤_}
 use native.Mathlib.Omega.{arith}
 use borrow.Author.Needs.{needs}
 use lib.ListN.{length, take, getD}
 use lib.Seq.{length-take-le}
 use Rattle.text.specs.Text.{word, decimal, line}
-use Rattle.text.proofs.Putting.{put-then, put-as}
-use Rattle.report.proofs.Lengths.{head-short, pairs-short, names-short}
-use Rattle.report.proofs.Answered.{answer-same, answer-different, answer-full, answer-refused, few-same, short-different}
+use Rattle.lent.proofs.Putting.{put-then, put-as}
+use Rattle.report.specs.Report.{longest}
+use Rattle.report.proofs.Lengths.{two-fit, three-fit, refusal-fits, first-alike, records-fit, names-fit}
+use Rattle.report.proofs.Answered.{answer-same, answer-different, answer-full, answer-refused, printable-same, printable-different}
 use Rattle.report.proofs.put_answer.Statement.{statement}
 use Rattle.report.proofs.put_answer.Tie as tie
 
@@ -22,23 +23,14 @@ module _ (c : tie.After-answer) where
   abbrev kept : ℕ
   kept = c .answer .given .0 .0
 
-  same-head : length (line (word "SAME" ∷ decimal kept ∷ decimal (c .answer .given .0 .1 .0) ∷ [])) ≤ 47
-  same-head = head-short (word "SAME") (kept ∷ c .answer .given .0 .1 .0 ∷ [])
-
   abbrev lefts : List ℕ
   lefts = same-start .args .lefts .now
 
   abbrev rights : List ℕ
   rights = same-start .args .rights .now
 
-  few : kept ≤ 1024
-  few = few-same (same-start .pre .1 .0) (c .answer .given .1)
-
-  left-part : length (take kept lefts) ≡ kept
-  left-part = length-take-le kept lefts (omega (arith, few))
-
-  right-part : length (take kept rights) ≡ kept
-  right-part = length-take-le kept rights (omega (arith, few))
+  printable : (kept ≤ length lefts) × (kept ≤ length rights) × (longest kept ≤ length (same-start .args .out .now))
+  printable = printable-same (same-start .pre) (c .answer .given .1)
 
 -- the places: at the counts, with the first line put
 abbrev same-counted : tie.After-counts → tie.After-answer
@@ -57,27 +49,25 @@ slice-aggregate-put-head-2 : tie.Need-slice-aggregate-put-head-2
 slice-aggregate-put-head-2 c = search needs
 
 put-head-requires : tie.Need-put-head-requires
-put-head-requires c κs = omega (arith, same-head (same-counted c))
+put-head-requires c κs = two-fit _ _ _ _ (omega (arith, same-start (same-counted c) .pre .text-fits))
 
 slice-aggregate-put-records : tie.Need-slice-aggregate-put-records
-slice-aggregate-put-records c = sym (left-part (same-counted (same-headed (c .before) .before)))
+slice-aggregate-put-records c =
+    let (in-lefts, in-rights, fits) = printable (same-counted (same-headed (c .before) .before)) in
+    sym (length-take-le _ _ (omega (arith, in-lefts, in-rights)))
 
 slice-aggregate-put-records-2 : tie.Need-slice-aggregate-put-records-2
-slice-aggregate-put-records-2 c = sym (right-part (same-counted (same-headed (c .before .before) .before)))
+slice-aggregate-put-records-2 c =
+    let (in-lefts, in-rights, fits) = printable (same-counted (same-headed (c .before .before) .before)) in
+    sym (length-take-le _ _ (omega (arith, in-lefts, in-rights)))
 
 put-records-requires : tie.Need-put-records-requires
 put-records-requires c κs =
     let head = same-headed (c .before .before) in
-    let arm = same-counted (head .before) in (
-      omega (arith, left-part arm, right-part arm),
-      omega (
-        arith,
-        same-start arm .pre .0,
-        few arm,
-        head .put-head .ensures .ends,
-        same-head arm,
-        pairs-short (kept arm) (lefts arm) (rights arm),
-      ),
+    let arm = same-counted (head .before) in
+    let (in-lefts, in-rights, fits) = printable arm in (
+      omega (arith, first-alike (kept arm) (lefts arm) (rights arm) in-lefts in-rights),
+      records-fit _ _ _ (head .put-head .ensures) (omega arith) _ _ _ fits,
     )
 
 -- ---- DIFFERENT
@@ -92,11 +82,8 @@ module _ (c : tie.After-answer2) where
   abbrev sequence : List ℕ
   sequence = different-start .args .sequence .now
 
-  different-head : length (line (word "DIFFERENT" ∷ decimal (c .answer2 .given .0 .0) ∷ decimal (c .answer2 .given .0 .1 .0) ∷ decimal size ∷ [])) ≤ 73
-  different-head = head-short (word "DIFFERENT") (c .answer2 .given .0 .0 ∷ c .answer2 .given .0 .1 .0 ∷ size ∷ [])
-
-  short : size ≤ 1024
-  short = short-different (different-start .pre .1 .0) (c .answer2 .given .1)
+  spellable : (size ≤ length sequence) × (longest size ≤ length (different-start .args .out .now))
+  spellable = printable-different (different-start .pre) (c .answer2 .given .1)
 
   bytes : (i : ℕ) → getD sequence i 0 < 256
   bytes i = omega (arith, c .before .before .shared-slice-known3 .given i)
@@ -117,25 +104,18 @@ slice-aggregate-put-head-4 : tie.Need-slice-aggregate-put-head-4
 slice-aggregate-put-head-4 c = search needs
 
 put-head-requires-2 : tie.Need-put-head-requires-2
-put-head-requires-2 c κs = omega (arith, different-head (different-counted c))
+put-head-requires-2 c κs = three-fit _ _ _ _ _ (omega (arith, different-start (different-counted c) .pre .text-fits))
 
 slice-aggregate-put-sequence : tie.Need-slice-aggregate-put-sequence
 slice-aggregate-put-sequence c =
-    let arm = different-counted (different-headed (c .before) .before) in
-    sym (length-take-le (size arm) (sequence arm) (omega (arith, short arm)))
+    let (there, fits) = spellable (different-counted (different-headed (c .before) .before)) in
+    sym (length-take-le _ _ there)
 
 put-sequence-requires : tie.Need-put-sequence-requires
 put-sequence-requires c κs =
     let head = different-headed (c .before) in
     let arm = different-counted (head .before) in
-    omega (
-      arith,
-      different-start arm .pre .0,
-      short arm,
-      head .put-head2 .ensures .ends,
-      different-head arm,
-      names-short (size arm) (sequence arm) (bytes arm),
-    )
+    names-fit _ _ _ _ (head .put-head2 .ensures) (omega arith) _ _ (bytes arm) (spellable arm .1)
 
 -- ---- FULL, and a refusal
 
@@ -152,15 +132,13 @@ slice-aggregate-put-head-6 : tie.Need-slice-aggregate-put-head-6
 slice-aggregate-put-head-6 c = search needs
 
 put-head-requires-3 : tie.Need-put-head-requires-3
-put-head-requires-3 c κs =
-    let given = full-counted c .answer3 .given in
-    omega (arith, head-short (word "FULL") (given .0 .0 ∷ given .0 .1 .0 ∷ []))
+put-head-requires-3 c κs = two-fit _ _ _ _ (omega (arith, full-counted c .before .before .before .before .before .before .pre .text-fits))
 
 enum-known-answer-4 : tie.Need-enum-known-answer-4
 enum-known-answer-4 c = search needs
 
 put-refusal-requires : tie.Need-put-refusal-requires
-put-refusal-requires c κs = search needs
+put-refusal-requires c κs = refusal-fits _ _ _ (omega (arith, c .before .before .before .before .before .before .before .before .pre .text-fits))
 
 -- ---- what each arm has put
 

@@ -1,6 +1,6 @@
 -- `report::put_event` puts a space, then the name.
 use borrow.Author.Needs.{needs}
-use Rattle.text.proofs.Putting.{put-then}
+use Rattle.lent.proofs.Putting.{put-then}
 use Rattle.report.proofs.put_event.Statement.{statement}
 use Rattle.report.proofs.put_event.Tie as tie
 

@@ -6,8 +6,8 @@ use native.Mathlib.Omega.{arith}
 use lib.ListN.{length, drop, getD}
 use Rattle.text.specs.Text.{word, spaced}
 use Rattle.events.specs.Events.{eventName}
-use Rattle.text.proofs.Putting.{Left, left-first, left-length, left-room, left-step, left-done}
-use Rattle.report.proofs.Lines.{spaced-none, spaced-step}
+use Rattle.lent.proofs.Putting.{Left, left-first, left-length, left-room, left-step, left-done}
+use Rattle.text.proofs.Lines.{spaced-none, spaced-step}
 use Rattle.report.proofs.put_events.Statement.{statement}
 use Rattle.report.proofs.put_events.Tie as tie
 

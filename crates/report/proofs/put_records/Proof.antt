@@ -5,7 +5,7 @@ use mathlib.Core.Path.{_≡_}
 use native.Mathlib.Omega.{arith}
 use lib.ListN.{length, drop, getD}
 use Rattle.text.specs.Text.{decimal, line}
-use Rattle.text.proofs.Putting.{Left, left-first, left-length, left-room, left-step, left-done}
+use Rattle.lent.proofs.Putting.{Left, left-first, left-length, left-room, left-step, left-done}
 use Rattle.report.specs.Inner.{pairLines}
 use Rattle.report.proofs.Lines.{pairs-none, pairs-step}
 use Rattle.report.proofs.put_records.Statement.{statement}
@@ -64,7 +64,7 @@ shared-slice-read-put-record-2 c = omega (arith, in-rights (c .before .before .b
 put-record-requires : tie.Need-put-record-requires Inv-loop μ-loop
 put-record-requires c κs =
     let turn = c .before .before .before in
-    left-room (own (lefts turn) (rights turn) (i turn)) (from (lefts turn) (rights turn) (i turn + 1)) (turn .before .loop .inv .1) (one-left turn)
+    omega (arith, left-room (own (lefts turn) (rights turn) (i turn)) (from (lefts turn) (rights turn) (i turn + 1)) (turn .before .loop .inv .1) (one-left turn))
 
 add-record : tie.Need-add-record Inv-loop μ-loop
 add-record c = omega arith

@@ -6,9 +6,10 @@ use native.Mathlib.Omega.{arith}
 use borrow.Author.Needs.{needs}
 use lib.ListN.{length, getD}
 use Rattle.text.specs.Text.{word, spaced, line}
-use Rattle.text.proofs.Putting.{put-as}
+use Rattle.lent.proofs.Putting.{put-as}
 use Rattle.events.specs.Events.{eventName}
-use Rattle.report.proofs.Lines.{after-first, no-names, some-names, whole-length, put-whole}
+use Rattle.text.proofs.Lines.{whole-length, put-whole}
+use Rattle.report.proofs.Lines.{after-first, no-names, some-names}
 use Rattle.report.proofs.put_sequence.Statement.{statement}
 use Rattle.report.proofs.put_sequence.Tie as tie
 

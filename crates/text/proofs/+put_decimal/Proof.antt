@@ -6,8 +6,9 @@ use native.Mathlib.Omega.{arith}
 use borrow.Fn.Kinds.{In}
 use borrow.Fn.PlainCycle.{Measures, is, falls, and}
 use lib.ListN.{length, length-append}
-use Rattle.text.specs.Text.{digit, decimal, Put}
-use Rattle.text.proofs.Putting.{put-length, put-then, put-as}
+use Rattle.lent.specs.Lent.{Put}
+use Rattle.text.specs.Text.{digit, decimal}
+use Rattle.lent.proofs.Putting.{put-length, put-then, put-as}
 use Rattle.text.proofs.Decimal.{decimal-last, decimal-more}
 use Rattle.text.proofs.put_decimal.Reads as put-decimal
 use Rattle.text.proofs.put_decimal.Kinds as kinds

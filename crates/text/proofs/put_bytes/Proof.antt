@@ -4,7 +4,7 @@ use mathlib.Core.List.{List, [], _∷_, _++_}
 use mathlib.Core.Path.{_≡_}
 use native.Mathlib.Omega.{arith}
 use lib.ListN.{length, drop, getD, drop-of-length-le}
-use Rattle.text.proofs.Putting.{Left, put-one, left-first, left-length, left-room, left-step, left-done, drop-step}
+use Rattle.lent.proofs.Putting.{Left, put-one, left-first, left-length, left-room, left-step, left-done, drop-step}
 use Rattle.text.proofs.put_bytes.Statement.{statement}
 use Rattle.text.proofs.put_bytes.Tie as tie
 

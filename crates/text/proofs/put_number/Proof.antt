@@ -1,6 +1,6 @@
 -- `text::put_number` puts a space, then the decimal.
 use borrow.Author.Needs.{needs}
-use Rattle.text.proofs.Putting.{put-then}
+use Rattle.lent.proofs.Putting.{put-then}
 use Rattle.text.proofs.put_number.Statement.{statement}
 use Rattle.text.proofs.put_number.Tie as tie
 

@@ -65,7 +65,7 @@ fn draw_room(random: &mut Random) -> u64 {
 }
 
 /// Holds an answer to the subset construction, where that is small enough, and to
-/// what document 01 says of the numbers. Says whether the construction was.
+/// what the scope, §6.6, says of the numbers. Says whether the construction was.
 fn judge(question: &Question, found: &Comparison) -> bool {
     let Question { pattern, x, y } = question;
     let whole = 1 + pattern.letters * found.kept;

@@ -49,7 +49,7 @@ pub fn compared(question: &Question, room: u64) -> Comparison {
     assert_compared(question, room, both(room.min(MAX_ROOM + 1) as usize))
 }
 
-/// Catches what the file says of each case: 'Errors that look right', and the readings.
+/// Catches what the file says of each case: the mistakes of the scope, §12, and what could be read otherwise.
 #[test]
 fn the_named_questions_are_compared_as_they_should() {
     let keys = [

@@ -27,7 +27,7 @@ fn assert_congruent(pairs: &[Pair], a: u64, b: u64) -> bool {
     wanted
 }
 
-/// Catches what document 01 lists under 'Errors that look right': one pass over
+/// Catches what the scope, §12.1 and §12.2, warns of: one pass over
 /// the pairs, and adding from left to right only.
 #[test]
 fn the_named_closings_end_as_they_should() {

@@ -4,7 +4,7 @@ use reference::pattern::{Pattern, MAX_LETTERS, MAX_STATES};
 use reference::questions::{question, Question};
 use reference::random::Random;
 
-/// Numbers at the ends of all ranges that document 01 has, and of 64 bits.
+/// Numbers at the ends of all ranges that the scope has, and of 64 bits.
 pub const EDGES: [u64; 13] = [
     0,
     1,

@@ -36,7 +36,7 @@ fn rooms_raised_step_by_step_end_with_one_answer() {
     assert!(full > 2000, "{full}");
 }
 
-/// Catches FULL where document 01's third demand rules it out: with m sets reached
+/// Catches FULL where demand 3 (the scope, §6.10) rules it out: with m sets reached
 /// from either start, a room of m-1 is enough.
 #[test]
 fn a_room_one_less_than_the_sets_reached_is_never_full() {

@@ -1,9 +1,9 @@
-//! The wrapper: its words are document 01's, and its answers those of the calls that it makes.
+//! The wrapper: its words are the scope's, and its answers those of the calls that it makes.
 
 use crate::draw::{any_question, small_question};
 use library::calls::{self, Lengths};
 use library::{cases, rounds::rounds};
-use pressbadger::{Checked, Columns, Compared, Judged, PatternRead, PatternWritten, Refusal};
+use pressbadger::{Checked, Columns, Compared, Judged, Refusal, Refused};
 use reference::answers::*;
 use reference::congruence::Pair;
 use reference::evidence::Check;
@@ -23,24 +23,41 @@ fn lend(pattern: &Pattern) -> pressbadger::Pattern<'_> {
     }
 }
 
-/// A comparison by the wrapper, in the reference's types.
-fn comparison<R>(compared: Compared<R>, records: impl Fn(R) -> Vec<Record>) -> Comparison {
-    let answer = u64::from(compared.number());
-    let (records, examined, sequence) = match compared {
-        Compared::Refused(_) => (Vec::new(), 0, &[][..]),
-        Compared::Same {
-            records: r,
-            examined,
+/// The number of an answer or of a refusal, which has a place for the file reader alone.
+fn number<A>(answer: &Result<A, Refused>, given: impl Fn(&A) -> u8) -> u64 {
+    u64::from(match answer {
+        Ok(answer) => given(answer),
+        Err(refused) => {
+            assert_eq!(refused.place(), None);
+            refused.number()
         }
-        | Compared::Full {
-            records: r,
-            examined,
-        } => (records(r), examined, &[][..]),
-        Compared::Different {
+    })
+}
+
+/// A comparison by the wrapper, in the reference's types.
+fn comparison<R>(
+    compared: Result<Compared<R>, Refused>,
+    records: impl Fn(R) -> Vec<Record>,
+) -> Comparison {
+    let answer = number(&compared, Compared::number);
+    let (records, examined, sequence) = match compared {
+        Err(_) => (Vec::new(), 0, &[][..]),
+        Ok(
+            Compared::Same {
+                records: r,
+                examined,
+            }
+            | Compared::Full {
+                records: r,
+                examined,
+            },
+        ) => (records(r), examined, &[][..]),
+        Ok(Compared::Different {
             records: r,
             examined,
             sequence,
-        } => (records(r), examined, sequence),
+        }) => (records(r), examined, sequence),
+        Ok(_) => panic!("an answer that the reference does not know"),
     };
     Comparison {
         answer,
@@ -74,10 +91,10 @@ fn of_columns(columns: Columns) -> Vec<Record> {
         lefts,
         rights,
         parents,
-        letters,
+        taken,
     } = columns;
     (0..lefts.len())
-        .map(|i| record(lefts[i], rights[i], parents[i], letters[i]))
+        .map(|i| record(lefts[i], rights[i], parents[i], taken[i]))
         .collect()
 }
 
@@ -101,12 +118,12 @@ fn assert_compare(question: &Question, room: u64, length: usize) {
 
 fn assert_compare_lists(question: &Question, room: usize, lengths: [usize; 4]) {
     let Question { pattern, x, y } = question;
-    let [lefts, rights, parents, letters] = lengths;
+    let [lefts, rights, parents, taken] = lengths;
     let lists = pressbadger::Lists {
         lefts: &mut vec![0; lefts],
         rights: &mut vec![0; rights],
         parents: &mut vec![0; parents],
-        letters: &mut vec![0; letters],
+        taken: &mut vec![0; taken],
     };
     let mut sequence = vec![0; lefts];
     let found = pressbadger::compare_lists(&lend(pattern), *x, *y, room, lists, &mut sequence);
@@ -115,17 +132,18 @@ fn assert_compare_lists(question: &Question, room: usize, lengths: [usize; 4]) {
 }
 
 fn assert_judge(pattern: &Pattern, set: u64, sequence: &[u8]) {
-    let found = pressbadger::judge(&lend(pattern), set, sequence).number();
-    assert_eq!(u64::from(found), calls::judge(pattern, set, sequence));
+    let found = pressbadger::judge(&lend(pattern), set, sequence);
+    let found = number(&found, |judged| judged.number());
+    assert_eq!(found, calls::judge(pattern, set, sequence));
 }
 
 /// A check by the wrapper, in the reference's types.
-fn checked(checked: Checked) -> Check {
+fn checked(checked: Result<Checked, Refused>) -> Check {
     let place = match checked {
-        Checked::NotProved { place } => place as u64,
+        Ok(Checked::NotProved { place }) => place as u64,
         _ => 0,
     };
-    let answer = u64::from(checked.number());
+    let answer = number(&checked, |checked| checked.number());
     Check { answer, place }
 }
 
@@ -151,24 +169,22 @@ fn assert_check_records(question: &Question, pairs: &[Pair]) {
 
 fn assert_read(bytes: &[u8], row_buffer_length: usize) {
     let mut rows = vec![0; row_buffer_length];
-    let read = pressbadger::read_pattern(bytes, &mut rows);
-    let answer = u64::from(read.number());
-    let found = match read {
-        PatternRead::Done { pattern, x, y } => Reading {
-            answer,
+    let found = match pressbadger::read_pattern(bytes, &mut rows) {
+        Ok(read) => Reading {
+            answer: DONE,
             place: 0,
             pattern: Pattern {
-                states: pattern.states as u64,
-                letters: pattern.letters as u64,
-                finals: pattern.finals,
-                rows: pattern.rows.to_vec(),
+                states: read.pattern.states as u64,
+                letters: read.pattern.letters as u64,
+                finals: read.pattern.finals,
+                rows: read.pattern.rows.to_vec(),
             },
-            x,
-            y,
+            x: read.x,
+            y: read.y,
         },
-        PatternRead::Refused { place, .. } => Reading {
-            answer,
-            place: place as u64,
+        Err(refused) => Reading {
+            answer: refused.number().into(),
+            place: refused.place().expect("a place in the file") as u64,
             ..Reading::default()
         },
     };
@@ -180,11 +196,8 @@ fn assert_write(question: &Question, byte_buffer_length: usize) -> Vec<u8> {
     let Question { pattern, x, y } = question;
     let mut bytes = vec![0; byte_buffer_length];
     let written = pressbadger::write_pattern(&lend(pattern), *x, *y, &mut bytes);
-    bytes.truncate(match written {
-        PatternWritten::Done { count } => count,
-        PatternWritten::Refused(_) => 0,
-    });
-    let answer = u64::from(written.number());
+    bytes.truncate(written.unwrap_or(0));
+    let answer = number(&written, |_| DONE as u8);
     let wanted = calls::write_pattern(pattern, *x, *y, byte_buffer_length);
     assert_eq!(Writing { answer, bytes }, wanted);
     wanted.bytes
@@ -247,17 +260,45 @@ fn the_wrapper_answers_random_questions_as_the_exports_do() {
 
 /// Catches a refusal left out of the wrapper, or one with another number or name.
 #[test]
-fn every_refusal_has_document_01s_number_and_name() {
-    let found = Refusal::ALL.map(|refusal| (u64::from(refusal.number()), refusal.name()));
+fn every_refusal_has_the_scopes_number_and_name() {
+    let all = Refusal::ALL.iter();
+    let found = all.map(|refusal| (u64::from(refusal.number()), refusal.name()));
     let refusals = NAMES.iter().filter(|(number, _)| is_refusal(*number));
     let wanted: Vec<(u64, &str)> = refusals.copied().collect();
-    assert_eq!(found[..], wanted);
-    assert_eq!(Refusal::BadSet.to_string(), "12 BAD-SET");
+    assert_eq!(found.collect::<Vec<_>>(), wanted);
 }
 
-/// Catches an answer with another number than document 01's.
+/// What the rows of a file come to, for a host that hands every refusal on.
+fn rows_of(bytes: &[u8], rows: &mut [u64]) -> Result<usize, Box<dyn std::error::Error>> {
+    let read = pressbadger::read_pattern(bytes, rows)?;
+    pressbadger::judge(&read.pattern, read.x, &[0, 31])?;
+    Ok(read.pattern.rows.len())
+}
+
+/// Catches a refusal that cannot be handed on with `?`, that loses its number, name or place on the
+/// way, or that says to people neither what is wrong nor where.
 #[test]
-fn every_answer_has_document_01s_number() {
+fn a_refusal_is_an_error_that_says_what_is_wrong_and_where() {
+    let mut rows = [0; 32];
+    let error = rows_of(&[3, 1, 5, 2, 1, 4, 1], &mut rows).expect_err("it is cut");
+    let refused: Refused = *error.downcast().expect("it is the wrapper's own");
+    assert_eq!(refused.refusal(), Refusal::Cut);
+    let parts = (refused.number(), refused.name(), refused.place());
+    assert_eq!(parts, (20, "CUT", Some(7)));
+    let words = "CUT (20): the file ends before or within a number, at byte 7";
+    assert_eq!(refused.to_string(), words);
+    let error = rows_of(&[3, 1, 5, 2, 1, 4, 1, 4], &mut rows).expect_err("letter 31 of 1");
+    let words = "BAD-LETTER (15): the sequence has a letter that the pattern does not have";
+    assert_eq!(error.to_string(), words);
+    let mut said: Vec<String> = Refusal::ALL.iter().map(Refusal::to_string).collect();
+    said.sort();
+    said.dedup_by_key(|words| words.split_once(": ").map(|(_, words)| words.to_owned()));
+    assert_eq!(said.len(), Refusal::ALL.len());
+}
+
+/// Catches an answer with another number than the scope's.
+#[test]
+fn every_answer_has_the_scopes_number() {
     let (records, examined, sequence) = (&[][..], 3, &[][..]);
     let same: Compared = Compared::Same { records, examined };
     let full: Compared = Compared::Full { records, examined };
@@ -274,25 +315,15 @@ fn every_answer_has_document_01s_number() {
         (Judged::Reject.number(), REJECT),
         (Checked::Proved.number(), PROVED),
         (Checked::NotProved { place: 3 }.number(), NOT_PROVED),
-        (PatternWritten::Done { count: 3 }.number(), DONE),
     ];
     for (found, wanted) in answers {
         assert_eq!(u64::from(found), wanted);
     }
-    for refusal in Refusal::ALL {
-        let compared: Compared = Compared::Refused(refusal);
-        assert_eq!(compared.number(), refusal.number());
-        assert_eq!(Judged::Refused(refusal).number(), refusal.number());
-        assert_eq!(Checked::Refused(refusal).number(), refusal.number());
-        assert_eq!(PatternWritten::Refused(refusal).number(), refusal.number());
-        let read = PatternRead::Refused { refusal, place: 3 };
-        assert_eq!(read.number(), refusal.number());
-    }
 }
 
-/// Catches a limit that is not document 01's.
+/// Catches a limit that is not the scope's.
 #[test]
-fn the_limits_are_document_01s() {
+fn the_limits_are_the_scopes() {
     assert_eq!(
         pressbadger::MAX_STATES as u64,
         reference::pattern::MAX_STATES
@@ -336,30 +367,25 @@ fn empty_slices_are_lent_as_nothing() {
         rows: &[],
     };
     let (judge, check) = (pressbadger::judge, pressbadger::check);
-    let refused = Judged::Refused(Refusal::BadTable);
-    assert_eq!(judge(&pattern, 1, &[]), refused);
+    let why = |refused: Refused| (refused.refusal(), refused.place());
+    let refused = Err((Refusal::BadTable, None));
+    assert_eq!(judge(&pattern, 1, &[]).map_err(why), refused);
     let rows = [0];
     let pattern = pressbadger::Pattern {
         rows: &rows,
         ..pattern
     };
-    assert_eq!(judge(&pattern, 1, &[]), Judged::Accept);
-    assert_eq!(judge(&pattern, 0, &[]), Judged::Reject);
-    assert_eq!(
-        check(&pattern, 1, 1, &[], &[]),
-        Checked::NotProved { place: 0 }
-    );
-    assert_eq!(
-        pressbadger::check_records(&pattern, 1, 1, &[]),
-        Checked::NotProved { place: 0 }
-    );
+    assert_eq!(judge(&pattern, 1, &[]), Ok(Judged::Accept));
+    assert_eq!(judge(&pattern, 0, &[]), Ok(Judged::Reject));
+    let not_proved = Ok(Checked::NotProved { place: 0 });
+    assert_eq!(check(&pattern, 1, 1, &[], &[]), not_proved);
+    assert_eq!(pressbadger::check_records(&pattern, 1, 1, &[]), not_proved);
     let (records, examined) = (&[][..], 1);
     let same = Compared::Same { records, examined };
     let found = pressbadger::compare(&pattern, 1, 1, 0, &mut [], &mut []);
-    assert_eq!(found, same);
-    let (refusal, place) = (Refusal::Cut, 0);
-    let refused = PatternRead::Refused { refusal, place };
-    assert_eq!(pressbadger::read_pattern(&[], &mut []), refused);
-    let refused = PatternWritten::Refused(Refusal::NoRoom);
-    assert_eq!(pressbadger::write_pattern(&pattern, 1, 1, &mut []), refused);
+    assert_eq!(found, Ok(same));
+    let found = pressbadger::read_pattern(&[], &mut []).map_err(why);
+    assert_eq!(found, Err((Refusal::Cut, Some(0))));
+    let found = pressbadger::write_pattern(&pattern, 1, 1, &mut []);
+    assert_eq!(found.map_err(why), Err((Refusal::NoRoom, None)));
 }

@@ -14,22 +14,22 @@ pub fn pattern(states: u64, letters: u64, finals: u64, rows: &[u64]) -> Pattern 
     }
 }
 
-/// Pattern A of document 01.
+/// Pattern A of the scope, §11.1.
 pub fn a() -> Pattern {
     pattern(3, 1, 5, &[2, 1, 4])
 }
 
-/// Pattern B of document 01.
+/// Pattern B of the scope, §11.1.
 pub fn b() -> Pattern {
     pattern(6, 1, 18, &[2, 4, 3, 48, 32, 8])
 }
 
-/// Pattern C of document 01.
+/// Pattern C of the scope, §11.1.
 pub fn c() -> Pattern {
     pattern(4, 1, 9, &[3, 4, 0, 8])
 }
 
-/// Pattern D of document 01.
+/// Pattern D of the scope, §11.1.
 pub fn d() -> Pattern {
     pattern(2, 2, 2, &[0, 2, 0, 0])
 }

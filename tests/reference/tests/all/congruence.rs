@@ -1,4 +1,4 @@
-//! Closing against document 01's definition of congruence: the least relation with its five laws.
+//! Closing against the definition of congruence (the scope, §4.1): the least relation with its five laws.
 
 use reference::congruence::{close, congruent, Pair};
 use reference::random::Random;

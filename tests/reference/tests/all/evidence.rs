@@ -1,4 +1,4 @@
-//! The check of evidence: readings 24 to 26, records of the walk, and random lists.
+//! The check of evidence: start, order and sides (the scope, §8), records of the walk, and random lists.
 
 use crate::cases::{a, all_of_two_states, b, compare_all, sides};
 use reference::answers::*;
@@ -7,7 +7,7 @@ use reference::questions::{question, Question};
 use reference::random::Random;
 use reference::subsets::{equivalence, Verdict};
 
-/// Reading 24: catches a failing pair reported where the starting pair is not listed.
+/// The scope, §8.4: catches a failing pair reported where the starting pair is not listed.
 #[test]
 fn the_starting_pair_is_looked_at_first() {
     let table: [(&[u64], &[u64], u64, u64); 6] = [
@@ -24,7 +24,7 @@ fn the_starting_pair_is_looked_at_first() {
     }
 }
 
-/// Reading 25: catches a starting pair found the other way round.
+/// The scope, §8.3: catches a starting pair found the other way round.
 #[test]
 fn the_starting_pair_counts_in_its_order_only() {
     let turned = check(&a(), 4, 3, &[3], &[4]);
@@ -32,7 +32,7 @@ fn the_starting_pair_counts_in_its_order_only() {
     assert_eq!(check(&a(), 4, 3, &[4], &[3]).answer, PROVED);
 }
 
-/// Reading 26: catches sides of different length that are taken as far as both go.
+/// The scope, §7.13: catches sides of different length that are taken as far as both go.
 #[test]
 fn two_sides_of_different_length_are_a_bad_list() {
     assert_eq!(check(&a(), 3, 4, &[3, 3], &[4]).answer, BAD_LIST);

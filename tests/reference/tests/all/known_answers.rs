@@ -1,4 +1,4 @@
-//! Every row of document 01's 'Questions with known answers', as data.
+//! Every row of the scope, §11, as data.
 
 use crate::cases::{a, b, blank, c, d, pairs};
 use reference::answers::*;
@@ -45,7 +45,7 @@ fn table() -> Vec<Known> {
     ]
 }
 
-/// Catches each of the 'Errors that look right' but the single pass: FULL before
+/// Catches each of the mistakes of the scope, §12, but the single pass: FULL before
 /// DIFFERENT (A, room 0), adding one way only and rows read letter by letter (D),
 /// skipping because the left set contains an earlier one (C).
 #[test]

@@ -1,4 +1,4 @@
-//! The readings on numbers and pattern files, 1 to 12, as small cases.
+//! Points of the scope about numbers and pattern files that could be read otherwise, as small cases.
 
 use crate::cases::{a, blank};
 use reference::answers::*;
@@ -15,7 +15,7 @@ fn after_nine(rest: &[u8]) -> Vec<u8> {
     [&[0x80; 9], rest].concat()
 }
 
-/// Reading 1: catches a tenth byte that is judged late, or an eleventh that is looked at.
+/// The scope, §9.7: catches a tenth byte that is judged late, or an eleventh that is looked at.
 #[test]
 fn the_tenth_byte_is_judged_as_soon_as_it_is_seen() {
     let table: [(&[u8], Read); 10] = [
@@ -35,7 +35,7 @@ fn the_tenth_byte_is_judged_as_soon_as_it_is_seen() {
     }
 }
 
-/// Reading 2: catches 00 bytes called LONG before the number has ended.
+/// The scope, §9.7, §9.8: catches 00 bytes called LONG before the number has ended.
 #[test]
 fn only_a_last_group_of_0_is_needless() {
     let table: [(&[u8], Read); 8] = [
@@ -97,7 +97,7 @@ fn fault(bytes: &[u8]) -> (u64, u64) {
     (reading.answer, reading.place)
 }
 
-/// Reading 3: catches a later number's form judged before an earlier one's range.
+/// The scope, §9.12: catches a later number's form judged before an earlier one's range.
 #[test]
 fn form_goes_before_range_and_the_earlier_number_wins() {
     assert_eq!(fault(&[0x41, 0x80, 0x00]), (BAD_SIZE, 0));
@@ -105,7 +105,7 @@ fn form_goes_before_range_and_the_earlier_number_wins() {
     assert_eq!(fault(&encode(1 << 63)), (BAD_SIZE, 0));
 }
 
-/// Reading 4: catches NO-ROOM judged after finals, or before k.
+/// The scope, §9.10: catches NO-ROOM judged after finals, or before k.
 #[test]
 fn no_room_is_judged_after_k_and_before_finals() {
     let table: [(&[u8], u64, (u64, u64)); 6] = [
@@ -122,7 +122,7 @@ fn no_room_is_judged_after_k_and_before_finals() {
     }
 }
 
-/// Reading 5: catches CUT placed where the data ends inside a number.
+/// The scope, §9.13: catches CUT placed where the data ends inside a number.
 #[test]
 fn cut_is_placed_at_the_first_byte_of_the_number() {
     assert_eq!(fault(&[0x83, 0x80, 0x80]), (CUT, 0));
@@ -130,7 +130,7 @@ fn cut_is_placed_at_the_first_byte_of_the_number() {
     assert_eq!(fault(&[40, 1, 0x80, 0x80, 0x01]), (CUT, 5));
 }
 
-/// Reading 6: catches a longer row buffer refused, or longer rows taken by another call.
+/// The scope, §7.8: catches a longer row buffer refused, or longer rows taken by another call.
 #[test]
 fn only_the_reader_takes_more_rows_than_n_times_k() {
     let bytes = [3, 1, 5, 2, 1, 4, 1, 4];
@@ -142,7 +142,7 @@ fn only_the_reader_takes_more_rows_than_n_times_k() {
     assert_eq!(pattern::check(&longer), Err(BAD_TABLE));
 }
 
-/// Reading 7: catches values left over from the numbers read before the fault.
+/// The scope, §9.14: catches values left over from the numbers read before the fault.
 #[test]
 fn a_refusing_reader_returns_0_for_all_but_the_place() {
     let reading = read(&[3, 1, 5, 2, 1, 4, 1, 4, 9], 3);
@@ -152,7 +152,7 @@ fn a_refusing_reader_returns_0_for_all_but_the_place() {
     assert_eq!(read(&[3, 1, 5, 2, 1, 4, 1, 4], 3).place, 0);
 }
 
-/// Reading 8: catches a row that is judged only when it is reached.
+/// The scope, §7.9: catches a row that is judged only when it is reached.
 #[test]
 fn rows_that_nothing_reaches_are_judged_as_well() {
     for row in 0..12 {
@@ -164,7 +164,7 @@ fn rows_that_nothing_reaches_are_judged_as_well() {
     }
 }
 
-/// Reading 9: catches a shift by 64 and a range of masks that is one bit off.
+/// The scope, §2.4: catches a shift by 64 and a range of masks that is one bit off.
 #[test]
 fn with_64_states_no_mask_is_bad_and_below_bit_n_is() {
     for states in 1..=64 {
@@ -178,7 +178,7 @@ fn with_64_states_no_mask_is_bad_and_below_bit_n_is() {
     }
 }
 
-/// Reading 11: catches a buffer of exactly the file's length refused, and bytes left on refusal.
+/// The scope, §9.15: catches a buffer of exactly the file's length refused, and bytes left on refusal.
 #[test]
 fn the_writer_needs_exactly_the_bytes_of_the_file() {
     let largest = Pattern {
@@ -193,7 +193,7 @@ fn the_writer_needs_exactly_the_bytes_of_the_file() {
     assert_eq!((refused.answer, refused.bytes.len()), (NO_ROOM, 0));
 }
 
-/// Reading 12: catches a cap on the input that hides the tail of the longest file.
+/// The scope, §10.1: catches a cap on the input that hides the tail of the longest file.
 #[test]
 fn the_cap_on_the_input_never_changes_an_answer() {
     let largest = Pattern {

@@ -1,4 +1,4 @@
-//! The readings on the walk, 13 to 20, as small cases.
+//! Points of the scope about the walk that could be read otherwise, as small cases.
 
 use crate::cases::{a, b, blank, compare_all, compare_in, d, pairs, pattern};
 use reference::answers::*;
@@ -27,7 +27,7 @@ fn chain() -> Pattern {
     pattern(4, 2, 8, &[0, 2, 4, 0, 0, 8, 0, 0])
 }
 
-/// Reading 13: catches candidates taken letter by letter or last record first.
+/// The scope, §5.2: catches candidates taken letter by letter or last record first.
 #[test]
 fn candidates_come_from_records_in_order_by_rising_letters() {
     let split = pattern(
@@ -61,7 +61,7 @@ fn candidates_come_from_records_in_order_by_rising_letters() {
     assert_eq!(numbers(&comparison), [SAME, 7, 15, 0]);
 }
 
-/// Reading 14: catches the four rules in another order.
+/// The scope, §5.3: catches the four rules in another order.
 #[test]
 fn the_rules_for_a_candidate_come_in_their_order() {
     let congruent_goes_before_full = found(b(), 1, 8, 3);
@@ -72,7 +72,7 @@ fn the_rules_for_a_candidate_come_in_their_order() {
     assert_eq!(numbers(&full_goes_before_keeping), [FULL, 1, 2, 0]);
 }
 
-/// Reading 15: catches a path that ends on meeting a parent 0 instead of record 0.
+/// The scope, §5.7: catches a path that ends on meeting a parent 0 instead of record 0.
 #[test]
 fn the_letter_of_record_1_counts() {
     let comparison = found(chain(), 1, 0, 1024);
@@ -82,7 +82,7 @@ fn the_letter_of_record_1_counts() {
     assert_eq!(comparison.length, 3);
 }
 
-/// Reading 16: catches room 0 refused, and FULL called before equality or difference.
+/// The scope, §6.7: catches room 0 refused, and FULL called before equality or difference.
 #[test]
 fn room_0_with_empty_buffers_is_a_valid_question() {
     let table = [
@@ -98,7 +98,7 @@ fn room_0_with_empty_buffers_is_a_valid_question() {
     }
 }
 
-/// Reading 17: catches a first candidate that is kept though X = Y, or skipped though not.
+/// The scope, §5.8: catches a first candidate that is kept though X = Y, or skipped though not.
 #[test]
 fn same_keeps_nothing_exactly_when_the_two_sets_are_equal() {
     let empty = blank(3, 2);
@@ -109,7 +109,7 @@ fn same_keeps_nothing_exactly_when_the_two_sets_are_equal() {
     }
 }
 
-/// Reading 18: catches an empty side that is passed over, or one that adds everything.
+/// The scope, §4.5: catches an empty side that is passed over, or one that adds everything.
 #[test]
 fn a_pair_with_an_empty_side_adds_to_every_set() {
     assert_eq!(close(0, &[(5, 0)]), 5);
@@ -119,7 +119,7 @@ fn a_pair_with_an_empty_side_adds_to_every_set() {
     assert_eq!(pairs(&found(d(), 1, 0, 1)), [(1, 0)]);
 }
 
-/// Reading 19: catches buffers judged by what would be kept instead of by the room.
+/// The scope, §7.10: catches buffers judged by what would be kept instead of by the room.
 #[test]
 fn buffers_are_judged_by_the_room_asked_for() {
     assert_eq!(compare(&a(), 1, 1, 5, &[4], 5).answer, BAD_ROOM);
@@ -128,7 +128,7 @@ fn buffers_are_judged_by_the_room_asked_for() {
     assert_eq!(compare(&a(), 1, 1, 1025, &[2000], 2000).answer, BAD_ROOM);
 }
 
-/// Reading 20: catches FULL called when the records fill the room and the next candidate differs.
+/// The scope, §5.9: catches FULL called when the records fill the room and the next candidate differs.
 #[test]
 fn different_may_fill_the_room_with_a_sequence_as_long() {
     let comparison = found(chain(), 1, 0, 3);

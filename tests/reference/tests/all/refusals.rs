@@ -201,7 +201,7 @@ fn the_reader_refuses_with_number_and_place() {
     }
 }
 
-/// Catches an answer number or name that is not document 01's.
+/// Catches an answer number or name that is not the scope's (§7).
 #[test]
 fn every_answer_number_has_its_name() {
     let numbers: Vec<u64> = NAMES.iter().map(|(number, _)| *number).collect();

@@ -1,4 +1,4 @@
-//! What the program prints: document 01's example, reading 27 and the event names.
+//! What the program prints: the example of the scope, §10.7, the lines (§10.3 to §10.5) and the event names.
 
 use crate::cases::{a, b, blank, pattern};
 use reference::events;
@@ -12,14 +12,14 @@ fn printed(pattern: &Pattern, x: u64, y: u64) -> String {
     String::from_utf8(report(&written.bytes)).expect("plain text")
 }
 
-/// Catches any change of the form that document 01 shows.
+/// Catches any change of the form that the scope, §10.7, shows.
 #[test]
 fn the_example_prints_exactly_its_two_lines() {
     let input = [0x03, 0x01, 0x05, 0x02, 0x01, 0x04, 0x01, 0x04];
     assert_eq!(report(&input), b"DIFFERENT 1 2 1\nREAD\n");
 }
 
-/// Reading 27: catches a missing newline, a length printed for SAME, and signed masks.
+/// The scope, §10.3 to §10.5: catches a missing newline, a length printed for SAME, and signed masks.
 #[test]
 fn every_answer_has_its_lines() {
     let wide = Pattern {

@@ -54,7 +54,7 @@ fn assert_tells_apart(question: &Question, sequence: &[u8]) {
     assert_eq!(judged, [ACCEPT, REJECT], "{question:?} {sequence:?}");
 }
 
-/// Catches kept or examined counted wrongly, a length over kept, and demand 3's bound overstepped.
+/// Catches kept or examined counted wrongly, a length over kept, and the bound of the scope, §6.10, overstepped.
 #[test]
 fn the_numbers_of_the_walk_keep_their_bounds() {
     for question in small_questions() {

@@ -1,0 +1,2 @@
+-- What a host lends, and values laid over it.
+pub mod Lent
