@@ -5,8 +5,8 @@ use Prim.Native.Nat.{ℕ, zero, suc, ◌≤◌, ◌<◌}
 use native.Mathlib.Omega.{arith}
 use native.Mathlib.Decide.{dec_le}
 use lib.ListN.{length, get_or, set, take, replicate, length-map, get_or-map}
-use Rattle.std.proofs.lemmas.List.{length-replicate}
 use lib.Seq.{take-suc, take-length, length-take-le}
+use Rattle.std.proofs.lemmas.List.{length-replicate}
 use Rattle.verdict.specs.declared.Verdict.{Verdict}
 use Rattle.verdict.specs.declared.Verdict.TheVariants.{Fine, Against}
 use Rattle.verdict.specs.Tests.{inOrder, Among}

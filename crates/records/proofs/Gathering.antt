@@ -1,4 +1,4 @@
--- The sides that are gathered from a list of records, and what their check says of the whole list. Assumes nothing.
+-- The check of the sides that are gathered from a list of records is the check of the whole list. Assumes nothing.
 use mathlib.Core.Path.{◌≡◌, refl, sym, ap, ◌∙◌}
 use mathlib.Core.List.{List, ◌∷◌}
 use Prim.Native.Nat.{ℕ, ◌≤◌, ◌<◌}
@@ -23,8 +23,6 @@ use Rattle.records.specs.declared.answers.PbChecked.{PbChecked}
 use Rattle.records.specs.Answers.{CheckedOffer}
 use Rattle.records.specs.Records.{valueIn, columnsIn}
 use Rattle.records.specs.Inner.{Shown, Gathers}
-
--- ---- the check of what is looked at is the check of the whole list
 
 -- a list that is too long is refused, and then nothing after it matters
 too-long : (n : ℕ) → maxRoom < n → listTest n n ≡ Against 16
@@ -60,9 +58,11 @@ module _ (P : Pattern) (x y : ℕ) (ls rs ls' rs' : List ℕ) (same : length ls 
   checked-alike (not-started e f) = absurd (never-fine e)
   checked-alike (started e f g) = absurd (never-fine e)
 
+-- the offer of the whole list
 abbrev all : Pattern → ℕ → ℕ → List PbRecord → Offer
 all P x y records = offer P x y (columnsIn records).lefts (columnsIn records).rights
 
+-- the check of what is looked at of it is the check of it
 pub checks-shown : (P : Pattern) (x y : ℕ) (records : List PbRecord) (n : ℕ) (lefts rights : List ℕ) {r : PbChecked} → Shown (length records) n → Gathers records n lefts rights
     → CheckedOffer (offer P x y (take n lefts) (take n rights)) r → CheckedOffer (all P x y records) r
 checks-shown P x y records n lefts rights {r} s g k = record { answer = k.answer; checked = cases (dec_le (length records) maxRoom); answers = k.answers }

@@ -1,6 +1,6 @@
 -- What the contracts of the functions beneath the exports cite. No promise to a host rests on this file.
 --   Asked        the room that is asked for, where the list has so many records
---   columnsOf   four lists of numbers as columns; filled: the first of their records written over a list
+--   asColumns    four lists of numbers as columns; filled: the first of their records written over a list
 --   Shown        how many records of a list are looked at; Gathers: the sides of so many
 use Rattle.std.specs.Prelude.{◌≡◌, List, ℕ, zero, suc, ◌+◌, ◌≤◌, ◌<◌, set, take}
 use Rattle.sets.specs.Rooms.{maxRoom}
@@ -13,8 +13,8 @@ pub record Asked (room listed r : ℕ) : Type 0 where
   pub enough : room ≤ listed → r ≡ room
   pub short : listed < room → r ≡ maxRoom + 1
 
-abbrev pub columnsOf : List ℕ → List ℕ → List ℕ → List ℕ → Columns
-columnsOf lefts rights parents taken = record { lefts = lefts; rights = rights; parents = parents; taken = taken }
+abbrev pub asColumns : List ℕ → List ℕ → List ℕ → List ℕ → Columns
+asColumns lefts rights parents taken = record { lefts = lefts; rights = rights; parents = parents; taken = taken }
 
 abbrev pub filled : Columns → List PbRecord → ℕ → List PbRecord
 filled columns records zero = records

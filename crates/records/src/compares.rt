@@ -3,7 +3,7 @@ ghost use Rattle.std.specs.Prelude.{◌≡◌, ◌≤◌, length};
 ghost use Rattle.walk.specs.Walk.{questionOf};
 ghost use Rattle.walk.specs.Columns.{Fit};
 ghost use Rattle.records.specs.Records.{ComparedRecords};
-ghost use Rattle.records.specs.Inner.{columnsOf, filled, Asked};
+ghost use Rattle.records.specs.Inner.{asColumns, filled, Asked};
 
 use crate::PbRecord;
 use crate::answers::PbCompared;
@@ -28,9 +28,9 @@ fn fill(
     n: usize,
     records: &mut [PbRecord],
 )
-    requires columns_fit { Fit n (columnsOf lefts.now rights.now parents.now taken.now) }
+    requires columns_fit { Fit n (asColumns lefts.now rights.now parents.now taken.now) }
     requires list_fits { n ≤ length records.old }
-    ensures { records.new ≡ filled (columnsOf lefts.now rights.now parents.now taken.now) records.old n }
+    ensures { records.new ≡ filled (asColumns lefts.now rights.now parents.now taken.now) records.old n }
 {
     for i in 0..n {
         records[i] = PbRecord {
