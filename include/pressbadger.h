@@ -2,7 +2,7 @@
  *
  * This header is the manual for programs in C99 and C++.
  *
- * LINKING. `rt staticlib pressbadger` writes target/staticlib/libpressbadger.a. A host is linked by
+ * LINKING. `bin/build pressbadger` writes target/staticlib/libpressbadger.a. A host is linked by
  *     gcc host.c -I include -L target/staticlib -lpressbadger
  * The library is for x86-64 and calls nothing but memcpy and memset. This header and the .a can be
  * copied to a machine without the kit, and so can the program target/bin/compare.

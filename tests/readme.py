@@ -1,5 +1,5 @@
 #!/usr/bin/env python3
-"""Holds README.md to what is there. To be run after `rt staticlib pressbadger`, with `compare` built.
+"""Holds README.md to what is there. To be run after `bin/build pressbadger`, with `compare` built.
 
 Its C compiles against include/pressbadger.h; the function there that takes a table, `int NAME(const uint64_t *rows)`, and asks one
 question of it with numbers written out, is run on tables of both kinds, and answers each as a plain comparison here does. What it says
@@ -110,7 +110,7 @@ def compared(page):
     shown = re.findall(r"^\$ bin/compare (\S+)\n((?:[^$`\n].*\n|\n)*)", page, re.M)
     program = ROOT / "target" / "bin" / "compare"
     if not shown or not program.exists():
-        yield "README.md shows no question and its answer" if not shown else "compare is not built: run `rt check compare`"
+        yield "README.md shows no question and its answer" if not shown else "compare is not built: run `bin/build compare`"
         return
     for file, answer in shown:
         with open(ROOT / file, "rb") as question:

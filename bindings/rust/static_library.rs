@@ -1,4 +1,4 @@
-//! Links a static library that `rt staticlib` wrote. One that is older than what it is made of is refused.
+//! Links a static library that `bin/build` wrote. One that is older than what it is made of is refused.
 
 use std::collections::BTreeSet;
 use std::path::{Path, PathBuf};
@@ -18,7 +18,7 @@ pub fn link(name: &str, root: &Path) {
     let Some(written) = changed(&library) else {
         let or = format!("or set {FOLDER} to the folder that has it, as an absolute path");
         stop(&format!(
-            "{} is not there: run `rt staticlib {name}`, {or}",
+            "{} is not there: run `bin/build {name}`, {or}",
             library.display()
         ));
     };
@@ -29,7 +29,7 @@ pub fn link(name: &str, root: &Path) {
             if let Some(newer) = newer(&source, written) {
                 let newer = newer.display();
                 stop(&format!(
-                    "{} is older than {newer}: run `rt staticlib {name}`",
+                    "{} is older than {newer}: run `bin/build {name}`",
                     library.display()
                 ));
             }
@@ -65,11 +65,11 @@ fn sources(name: &str, root: &Path) -> Vec<PathBuf> {
     [list].into_iter().chain(folders).collect()
 }
 
-/// The crates that a crate names in the list: a line for each, `NAME: NEEDED NEEDED # comment`.
+/// The crates that a crate names in the list: a line for each, `NAME KIND: NEEDED NEEDED # comment`.
 fn needed<'list>(name: &str, list: &'list str) -> Vec<&'list str> {
     list.lines()
         .filter_map(|line| line.split('#').next()?.split_once(':'))
-        .filter(|(listed, _)| listed.trim() == name)
+        .filter(|(listed, _)| listed.split_whitespace().next() == Some(name))
         .flat_map(|(_, needed)| needed.split_whitespace())
         .collect()
 }

@@ -1,15 +1,15 @@
 -- What two inputs ask. Assumes nothing.
 use mathlib.Core.Path.{refl}
-use mathlib.Core.List.{List, [], _∷_}
+use mathlib.Core.List.{List, [], ◌∷◌}
 use Prim.Native.Nat.{ℕ}
-use Rattle·verdict.specs.Tests.{need, inOrder}
-use Rattle·pattern.specs.Tests.{sizeTest, setTest, spaceTest}
-use Rattle·numbers.specs.Numbers.{byteTest, groups, numberAt}
-use Rattle·numbers.specs.Format.{many, reading, fileReading}
-use Rattle·patternfile.specs.PatternFile.{patternThen, patternFormat}
-use Rattle·patternfile.proofs.Examples.{no-bytes}
-use Rattle·walk.specs.Known.{A}
-use Rattle·asking·specs.specs.Asking.{Asks, Refuses}
+use Rattle.verdict.specs.Tests.{need, inOrder}
+use Rattle.pattern.specs.Tests.{sizeTest, setTest, spaceTest}
+use Rattle.numbers.specs.Numbers.{byteTest, groups, numberAt}
+use Rattle.numbers.specs.Format.{many, reading, fileReading}
+use Rattle.patternfile.specs.PatternFile.{patternThen, patternFormat}
+use Rattle.patternfile.proofs.Examples.{no-bytes}
+use Rattle.walk.specs.Known.{A}
+use Rattle.asking.specs.Asking.{Asks, Refuses}
 
 -- no byte at all: CUT at place 0
 pub no-input : Refuses [] 20 0

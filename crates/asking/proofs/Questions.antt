@@ -1,73 +1,73 @@
 -- What bytes ask: one question, which is proper; or they are refused, in one way. Assumes nothing.
-use mathlib.Core.Logic.{_⊎_, inl, inr}
-use mathlib.Core.Path.{_≡_, refl, sym, ap, _∙_}
-use mathlib.Core.List.{List, [], _∷_, _++_}
-use Prim.Native.Nat.{ℕ, _*_}
+use mathlib.Core.Logic.{◌⊎◌, inl, inr}
+use mathlib.Core.Path.{◌≡◌, refl, sym, ap, ◌∙◌}
+use mathlib.Core.List.{List, [], ◌∷◌, ◌++◌}
+use Prim.Native.Nat.{ℕ, ◌*◌}
 use lib.ListN.{length, take, drop, take-append-drop}
 use lib.Seq.{length-take-le}
-use Rattle·pattern.specs.Tests.{setTest}
-use Rattle·numbers.specs.Numbers.{AreBytes}
-use Rattle·numbers.specs.Format.{ended, Reading, got, refused, fileReading, Fits}
-use Rattle·numbers.proofs.Formats.{refused-got, IsFile, file-write-after-read}
-use Rattle·numbers.proofs.Parts.{FitsMany, fits-many}
-use Rattle·patternfile.specs.PatternFile.{numbersOf, startsThen, patternThen, patternFormat}
-use Rattle·patternfile.proofs.Contents.{accepted-valid}
-use Rattle·patternfile.proofs.Determined.{same-rows}
-use Rattle·walk.specs.Walk.{Question, questionOf}
-use Rattle·walk.specs.Meaning.{Proper}
-use Rattle·asking·specs.specs.Asking.{rowRoom, Asks, Refuses}
+use Rattle.pattern.specs.Tests.{setTest}
+use Rattle.numbers.specs.Numbers.{AreBytes}
+use Rattle.numbers.specs.Format.{ended, Reading, got, refused, fileReading, Fits}
+use Rattle.numbers.proofs.Formats.{refused-got, IsFile, file-write-after-read}
+use Rattle.numbers.proofs.Parts.{FitsMany, fits-many}
+use Rattle.patternfile.specs.PatternFile.{numbersOf, startsThen, patternThen, patternFormat}
+use Rattle.patternfile.proofs.Contents.{accepted-valid}
+use Rattle.patternfile.proofs.Determined.{same-rows}
+use Rattle.walk.specs.Walk.{Question, questionOf}
+use Rattle.walk.specs.Meaning.{Proper}
+use Rattle.asking.specs.Asking.{rowRoom, Asks, Refuses}
 
-question-path : {p q : Question} → p .pattern .states ≡ q .pattern .states → p .pattern .letters ≡ q .pattern .letters → p .pattern .finals ≡ q .pattern .finals
-    → p .pattern .rows ≡ q .pattern .rows → p .left ≡ q .left → p .right ≡ q .right → p ≡ q
+question-path : {p q : Question} → p.pattern.states ≡ q.pattern.states → p.pattern.letters ≡ q.pattern.letters → p.pattern.finals ≡ q.pattern.finals
+    → p.pattern.rows ≡ q.pattern.rows → p.left ≡ q.left → p.right ≡ q.right → p ≡ q
 question-path n k f rows x y i = record { pattern = record { states = n i; letters = k i; finals = f i; rows = rows i }; left = x i; right = y i }
 
 -- a file is that of one question
 pub asks-one : {input : List ℕ} {Q R : Question} → Asks input Q → Asks input R → Q ≡ R
 asks-one {input} {Q} {R} a b =
-    let P = Q .pattern in
-    let S = R .pattern in
-    let e : got (numbersOf P (Q .left) (Q .right)) (length input) ≡ got (numbersOf S (R .left) (R .right)) (length input) = sym (a .read) ∙ b .read in
-    let n : P .states ≡ S .states = cc in
-    let k : P .letters ≡ S .letters = cc in
-    let f : P .finals ≡ S .finals = cc in
-    let all : P .rows ++ (Q .left ∷ Q .right ∷ []) ≡ S .rows ++ (R .left ∷ R .right ∷ []) = cc in
-    let m : P .states * P .letters ≡ S .states * S .letters = rw (n, k) in
-    let (rows, starts) = same-rows (P .rows) (S .rows) (Q .left) (Q .right) (R .left) (R .right) (a .tabled ∙ m ∙ sym (b .tabled)) all in
-    let x : Q .left ≡ R .left = cc in
-    let y : Q .right ≡ R .right = cc in
+    let P = Q.pattern in
+    let S = R.pattern in
+    let e : got (numbersOf P Q.left Q.right) (length input) ≡ got (numbersOf S R.left R.right) (length input) = sym a.read ∙ b.read in
+    let n : P.states ≡ S.states = cc in
+    let k : P.letters ≡ S.letters = cc in
+    let f : P.finals ≡ S.finals = cc in
+    let all : P.rows ++ (Q.left ∷ Q.right ∷ []) ≡ S.rows ++ (R.left ∷ R.right ∷ []) = cc in
+    let m : P.states * P.letters ≡ S.states * S.letters = rw (n, k) in
+    let (rows, starts) = same-rows P.rows S.rows Q.left Q.right R.left R.right (a.tabled ∙ m ∙ sym b.tabled) all in
+    let x : Q.left ≡ R.left = cc in
+    let y : Q.right ≡ R.right = cc in
     question-path n k f rows x y
 
 -- its pattern is valid, and X and Y are sets of its states
 pub asks-proper : {input : List ℕ} {Q : Question} → AreBytes input → Asks input Q → Proper Q
-asks-proper are a = let c = accepted-valid are a in record { valid = c .valid; left-good = c .good-x; right-good = c .good-y }
+asks-proper are a = let c = accepted-valid are a in record { valid = c.valid; left-good = c.good-x; right-good = c.good-y }
 
 pub asked-or-refused : {input : List ℕ} {Q : Question} {number place : ℕ} → Asks input Q → Refuses input number place → ⊥
-asked-or-refused a r = refused-got (sym r ∙ a .read)
+asked-or-refused a r = refused-got (sym r ∙ a.read)
 
-pub one-refusal : (input : List ℕ) {number place number′ place′ : ℕ} → Refuses input number place → Refuses input number′ place′ → (number ≡ number′) × (place ≡ place′)
-one-refusal input {number} {place} {number′} {place′} r s = let e : refused number place ≡ refused number′ place′ = sym r ∙ s in (cc, cc)
+pub one-refusal : (input : List ℕ) {number place number' place' : ℕ} → Refuses input number place → Refuses input number' place' → (number ≡ number') × (place ≡ place')
+one-refusal input {number} {place} {number'} {place'} r s = let e : refused number place ≡ refused number' place' = sym r ∙ s in (cc, cc)
 
 -- ---- every input asks or is refused
 
 fits-starts : (n : ℕ) (us : List ℕ) → Fits (startsThen n ended) us → (x : ℕ) × (y : ℕ) × (us ≡ x ∷ y ∷ [])
 unfolding Fits
 fits-starts n [] h = absurd h
-fits-starts n (x ∷ []) h = absurd (h .2)
+fits-starts n (x ∷ []) h = absurd h.2
 fits-starts n (x ∷ y ∷ []) h = (x, y, refl)
-fits-starts n (x ∷ y ∷ z ∷ us) h = absurd (h .2 .2)
+fits-starts n (x ∷ y ∷ z ∷ us) h = absurd h.2.2
 
 -- the numbers that fit are those of a question
 fits-question : (vs : List ℕ) → Fits (patternFormat rowRoom) vs
-    → (Q : Question) × (length (Q .pattern .rows) ≡ Q .pattern .states * Q .pattern .letters) × (vs ≡ numbersOf (Q .pattern) (Q .left) (Q .right))
+    → (Q : Question) × (length Q.pattern.rows ≡ Q.pattern.states * Q.pattern.letters) × (vs ≡ numbersOf Q.pattern Q.left Q.right)
 unfolding patternFormat patternThen Fits
 fits-question [] h = absurd h
-fits-question (n ∷ []) h = absurd (h .2)
-fits-question (n ∷ k ∷ []) h = absurd (h .2 .2 .1)
+fits-question (n ∷ []) h = absurd h.2
+fits-question (n ∷ k ∷ []) h = absurd h.2.2.1
 fits-question (n ∷ k ∷ f ∷ us) h =
-    let m : FitsMany (n * k) (setTest n) (startsThen n ended) us = fits-many (n * k) (setTest n) (startsThen n ended) us (h .2 .2 .1 .2) in
-    let (x, y, e) = fits-starts n (drop (n * k) us) (m .rest) in (
+    let m : FitsMany (n * k) (setTest n) (startsThen n ended) us = fits-many (n * k) (setTest n) (startsThen n ended) us h.2.2.1.2 in
+    let (x, y, e) = fits-starts n (drop (n * k) us) m.rest in (
       questionOf n k f (take (n * k) us) x y,
-      length-take-le (n * k) us (m .enough),
+      length-take-le (n * k) us m.enough,
       ap (λ (l : List ℕ). n ∷ k ∷ f ∷ l) (sym (take-append-drop (n * k) us) ∙ ap (λ (l : List ℕ). take (n * k) us ++ l) e),
     )
 
@@ -77,6 +77,6 @@ asks-or-refuses input are = pick (fileReading (patternFormat rowRoom) input) ref
     pick : (r : Reading) → fileReading (patternFormat rowRoom) input ≡ r → ((Q : Question) × Asks input Q) ⊎ ((number : ℕ) × (place : ℕ) × Refuses input number place)
     pick (got vs end) e =
         let file : IsFile (patternFormat rowRoom) vs input end = file-write-after-read (patternFormat rowRoom) input vs end are e in
-        let (Q, tabled, all) = fits-question vs (file .fits) in
-        inl (Q, record { tabled = tabled; read = e ∙ ap (λ (l : List ℕ). got l end) all ∙ ap (got (numbersOf (Q .pattern) (Q .left) (Q .right))) (file .takes-all) })
+        let (Q, tabled, all) = fits-question vs file.fits in
+        inl (Q, record { tabled = tabled; read = e ∙ ap (λ (l : List ℕ). got l end) all ∙ ap (got (numbersOf Q.pattern Q.left Q.right)) file.takes-all })
     pick (refused number place) e = inr (number, place, e)

@@ -1,9 +1,13 @@
 // The question of a pattern file, asked in a room: bytes in; the answer, the rows, the records and the sequence out.
-ghost use Rattle·asking·specs.specs.Asking.{Lends, AnswersFile};
+#![tactic(auto)]
+
+ghost use Rattle.asking.specs.Asking.{Lends, AnswersFile};
+
 use comparison::Answer;
 use patternfile::PatternRead;
 
 // The comparison's answer, or the reader's refusal and its place.
+#[derive(Drop)]
 pub enum Asked {
     Answered(Answer),
     Refused(u8, usize),
@@ -20,8 +24,8 @@ pub fn ask(
     taken: &mut [u8],
     sequence: &mut [u8],
 ) -> Asked
-    requires { ⌜ Lends room rows lefts rights parents taken sequence ⌝ }
-    ensures { λ r. ⌜ AnswersFile bytes room rows lefts rights parents taken sequence r ⌝ }
+    requires { Lends room rows lefts rights parents taken sequence }
+    ensures { AnswersFile bytes.now room rows lefts rights parents taken sequence result }
 {
     let file = patternfile::read(bytes, rows);
     match file {

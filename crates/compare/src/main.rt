@@ -1,9 +1,29 @@
 // `compare`: takes in one pattern file from standard input and prints what the report says of it in the default room.
-use libc::STDIN_FILENO;
-use libc::STDOUT_FILENO;
-use sets::States;
+#![tactic(auto)]
 
-fn main() {
+ghost use Rattle.std.specs.Prelude.{◌≤◌, length};
+
+use sets::States;
+use std::io::{Read, Write};
+
+// Fills the buffer as far as the input goes, and gives how many bytes came. A read that fails ends the input.
+fn take_in<R: Read>(input: &mut R, bytes: &mut [u8]) -> usize
+    ensures { result ≤ length bytes.new }
+{
+    let mut count = 0;
+    while count < bytes.len() {
+        let Ok(more) = input.read(&mut bytes[count..]) else {
+            return count;
+        };
+        if more == 0 {
+            return count;
+        }
+        count += more;
+    }
+    count
+}
+
+fn main(rt: HostRuntime) {
     // One byte more than the longest file: what comes after it changes nothing.
     let mut bytes = [0u8; 20513];
     let mut rows = [0u64; 2048];
@@ -13,7 +33,8 @@ fn main() {
     let mut taken = [0u8; States::DEFAULT_ROOM];
     let mut sequence = [0u8; States::DEFAULT_ROOM];
     let mut out = [0u8; 74 + 42 * States::DEFAULT_ROOM];
-    let count = io::read_full(STDIN_FILENO, &mut bytes);
+    let mut input = rt.stdin();
+    let count = take_in(&mut input, &mut bytes);
     let length = report::report(
         &bytes[..count],
         States::DEFAULT_ROOM,
@@ -25,5 +46,7 @@ fn main() {
         &mut sequence,
         &mut out,
     );
-    io::write_all(STDOUT_FILENO, &out[..length]);
+    let mut output = rt.stdout();
+    let written = output.write_all(&out[..length]);
+    drop(written);
 }

@@ -1,52 +1,52 @@
 -- `known-calls`: the proved answers of the scope, §11.2, as a call gives them: answer, values and memory. Assumes nothing.
-use mathlib.Core.Path.{_≡_, refl}
-use mathlib.Core.List.{List, [], _∷_}
+use mathlib.Core.Path.{◌≡◌, refl}
+use mathlib.Core.List.{List, [], ◌∷◌}
 use Prim.Native.Nat.{ℕ}
-use Rattle·verdict.specs.declared.Verdict.{Verdict}
-use Rattle·verdict.specs.declared.Verdict.the-variants.{Fine}
-use Rattle·verdict.specs.Tests.{need, inOrder, each}
-use Rattle·verdict.proofs.Ordered.{order-fine}
-use Rattle·pattern.specs.Tests.{sizeTest, tableTest, setTest, shapeTest, masksTest, patternTest}
-use Rattle·pattern.proofs.Validity.{set-fine, pattern-valid}
-use Rattle·walk.specs.Walk.{Question, Outcome, Walk}
-use Rattle·walk.specs.Meaning.{Proper}
-use Rattle·walk.specs.Known.{Row, table, Known}
-use Rattle·walk.specs.Known.Row.{asks, closes}
-use Rattle·walk.specs.Known.Known.{done, row}
-use Rattle·walk.proofs.KnownAnswers.{known-answers}
-use Rattle·comparison·specs.specs.Answers.Compared.{walks}
-use Rattle·comparison·specs.specs.Known.{Gives, KnownCalls}
-use Rattle·comparison·specs.specs.Known.KnownCalls.{none, answers, passes}
-use Rattle·comparison·proofs.proofs.Asking.{compare-fine}
-use Rattle·comparison·proofs.proofs.CompareDetermined.{compare-determined}
+use Rattle.verdict.specs.declared.Verdict.{Verdict}
+use Rattle.verdict.specs.declared.Verdict.TheVariants.{Fine}
+use Rattle.verdict.specs.Tests.{need, inOrder, each}
+use Rattle.verdict.proofs.Ordered.{order-fine}
+use Rattle.pattern.specs.Tests.{sizeTest, tableTest, setTest, shapeTest, masksTest, patternTest}
+use Rattle.pattern.proofs.Validity.{set-fine, pattern-valid}
+use Rattle.walk.specs.Walk.{Question, Outcome, Walk}
+use Rattle.walk.specs.Meaning.{Proper}
+use Rattle.walk.specs.Known.{Row, table, Known}
+use Rattle.walk.specs.Known.Row.{asks, closes}
+use Rattle.walk.specs.Known.Known.{done, row}
+use Rattle.walk.proofs.KnownAnswers.{known-answers}
+use Rattle.comparison.specs.Answers.Compared.{walks}
+use Rattle.comparison.specs.Known.{Gives, KnownCalls}
+use Rattle.comparison.specs.Known.KnownCalls.{none, answers, passes}
+use Rattle.comparison.proofs.Asking.{compare-fine}
+use Rattle.comparison.proofs.CompareDetermined.{compare-determined}
 
 -- a question whose walk is known gives its outcome
 gives : {Q : Question} {room : ℕ} {o : Outcome} → Proper Q → Walk Q room o → Gives Q room o
-gives p w = record { all = λ lent r a later k. compare-determined k (walks (compare-fine _ .1 (p, r)) w) }
+gives p w = record { all = λ lent r a later k. compare-determined k (walks ((compare-fine _).1 (p, r)) w) }
 
 -- the tests of the questions of the table, each by computing
 tests : Question → Verdict
-tests Q = inOrder (patternTest (Q .pattern) ∷ setTest (Q .pattern .states) (Q .left) ∷ setTest (Q .pattern .states) (Q .right) ∷ [])
+tests Q = inOrder (patternTest Q.pattern ∷ setTest Q.pattern.states Q.left ∷ setTest Q.pattern.states Q.right ∷ [])
 
 proper : (Q : Question) → tests Q ≡ Fine → Proper Q
 unfolding tests
 proper Q e =
-    let (pattern, (left, (right, _))) = order-fine _ .0 e in
-    record { valid = pattern-valid (Q .pattern) .0 pattern; left-good = set-fine _ _ .0 left; right-good = set-fine _ _ .0 right }
+    let (pattern, (left, (right, _))) = (order-fine _).0 e in
+    record { valid = (pattern-valid Q.pattern).0 pattern; left-good = (set-fine _ _).0 left; right-good = (set-fine _ _).0 right }
 
 abbrev Fines : List Row → Type 0
 Fines [] = Unit {0}
 Fines (asks Q room o ∷ rows) = (tests Q ≡ Fine) × Fines rows
 Fines (closes pairs set closed ∷ rows) = Fines rows
 
-called : {rows : List Row} → Fines rows → Known rows → KnownCalls rows
-called f done = none
-called {rows = asks Q room o ∷ rows} (e, f) (row w k) = answers (gives (proper Q e) w) (called f k)
-called {rows = closes pairs set closed ∷ rows} f (row w k) = passes (called f k)
+called : (rows : List Row) → Fines rows → Known rows → KnownCalls rows
+called [] f done = none
+called (asks Q room o ∷ rows) (e, f) (row w k) = answers (gives (proper Q e) w) (called rows f k)
+called (closes pairs set closed ∷ rows) f (row w k) = passes (called rows f k)
 
 fines : Fines table
 unfolding tests patternTest shapeTest sizeTest tableTest masksTest setTest need inOrder each
 fines = (refl, (refl, (refl, (refl, (refl, (refl, (refl, (refl, (refl, tt)))))))))
 
 pub known-calls : KnownCalls table
-known-calls = called fines known-answers
+known-calls = called table fines known-answers

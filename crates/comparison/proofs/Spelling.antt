@@ -1,15 +1,15 @@
 -- What the two loops of `spell` keep: the way up a path is counted, and then written from its end. Assumes nothing.
-use mathlib.Core.Path.{_≡_, refl, sym, ap, ap₂, _∙_}
-use mathlib.Core.List.{List, [], _∷_, _++_, append-assoc, append-nil}
-use Prim.Native.Nat.{ℕ, suc, _+_, _-_, _≤_, _<_}
+use mathlib.Core.Path.{◌≡◌, refl, sym, ap, ap₂, ◌∙◌}
+use mathlib.Core.List.{List, [], ◌∷◌, ◌++◌, append_assoc, append-nil}
+use Prim.Native.Nat.{ℕ, suc, ◌+◌, ◌-◌, ◌≤◌, ◌<◌}
 use native.Mathlib.Numerals.{add-one}
 use native.Mathlib.Omega.{arith}
-use lib.ListN.{length, getD, take, drop, set, length-append, length-set, take-append-drop}
-use lib.Seq.{take-suc, set-at, length-take-le, set-split, drop-at}
-use Rattle·lent.specs.Lent.{lay}
-use Rattle·walk.specs.Walk.{Path}
-use Rattle·comparison·specs.specs.Inner.{Spelt}
-use Rattle·walk.proofs.Paths.{path-unique, further-of, ended-of}
+use lib.ListN.{length, get_or, take, drop, set, length-append, length-set, take-append-drop}
+use lib.Seq.{take-suc, set_at, length-take-le, set_split, drop_at}
+use Rattle.lent.specs.Lent.{lay}
+use Rattle.walk.specs.Walk.{Path}
+use Rattle.comparison.specs.Inner.{Spelt}
+use Rattle.walk.proofs.Paths.{path-unique, further-of, ended-of}
 
 -- ---- the first loop: so many letters are passed, and i is where we stand
 
@@ -22,14 +22,14 @@ module _ {parents letters : List ℕ} {from : ℕ} where
   pub climbing-first : {w : List ℕ} → Path parents letters from w → Climbing parents letters from 0 from
   climbing-first {w} p = record { word = w; path = p; total = λ v u. ap length (path-unique u p) ∙ omega arith }
 
-  pub climbing-step : {count i i′ : ℕ} → Climbing parents letters from count i → (i ≡ 0 → ⊥) → i′ ≡ getD parents i 0
-      → Climbing parents letters from (count + 1) i′
+  pub climbing-step : {count i i' : ℕ} → Climbing parents letters from count i → (i ≡ 0 → ⊥) → i' ≡ get_or parents i 0
+      → Climbing parents letters from (count + 1) i'
   climbing-step {count} {i} c f e =
-      let g = further-of (c .path) f in
-      rw e (record { word = g .before; path = g .path; total = λ w p. omega (arith, c .total w p, g .longer) })
+      let g = further-of c.path f in
+      rw e (record { word = g.before; path = g.path; total = λ w p. omega (arith, c.total w p, g.longer) })
 
   pub climbing-done : {count i : ℕ} → Climbing parents letters from count i → i ≡ 0 → (w : List ℕ) → Path parents letters from w → length w ≡ count
-  climbing-done {count} c e w p = c .total w p ∙ ap (λ (u : List ℕ). length u + count) (ended-of (c .path) e) ∙ omega arith
+  climbing-done {count} c e w p = c.total w p ∙ ap (λ (u : List ℕ). length u + count) (ended-of c.path e) ∙ omega arith
 
 -- ---- the second loop: the letters passed stand from `at` on
 
@@ -48,8 +48,8 @@ put : (old done : List ℕ) (m a count : ℕ) → m < length old
     → set (take (suc m) old ++ (done ++ drop count old)) m a ≡ take m old ++ ((a ∷ done) ++ drop count old)
 put old done m a count l =
     ap (λ (u : List ℕ). set (u ++ (done ++ drop count old)) m a) (take-suc old m 0 l)
-    ∙ ap (λ (u : List ℕ). set u m a) (append-assoc (take m old) (getD old m 0 ∷ []) (done ++ drop count old))
-    ∙ set-at (take m old) (getD old m 0) (done ++ drop count old) a m (length-take-le m old (omega arith))
+    ∙ ap (λ (u : List ℕ). set u m a) (append_assoc (take m old) (get_or old m 0 ∷ []) (done ++ drop count old))
+    ∙ set_at (take m old) (get_or old m 0) (done ++ drop count old) a m (length-take-le m old (omega arith))
 
 module _ {parents letters : List ℕ} {from count : ℕ} where
   pub writing-first : {at : ℕ} {old w : List ℕ} → Path parents letters from w → length w ≡ count → at ≡ count → count < length old
@@ -68,24 +68,24 @@ module _ {parents letters : List ℕ} {from count : ℕ} where
       })
 
   pub at-positive : {at j : ℕ} {old new : List ℕ} → Writing parents letters from count old new at j → (j ≡ 0 → ⊥) → 1 ≤ at
-  at-positive w f = omega (arith, w .place, further-of (w .path) f .longer)
+  at-positive w f = omega (arith, w.place, (further-of w.path f).longer)
 
-  pub writing-step : {at at′ j j′ : ℕ} {old new new′ : List ℕ} → Writing parents letters from count old new at j → (j ≡ 0 → ⊥)
-      → at′ ≡ at - 1 → new′ ≡ set new at′ (getD letters j 0) → j′ ≡ getD parents j 0 → Writing parents letters from count old new′ at′ j′
-  writing-step {at} {at′} {j} {old = old} {new} w f e z y =
-      let g = further-of (w .path) f in
-      let a = getD letters j 0 in
-      let up : at ≡ suc at′ = omega (arith, w .place, g .longer) in
+  pub writing-step : {at at' j j' : ℕ} {old new new' : List ℕ} → Writing parents letters from count old new at j → (j ≡ 0 → ⊥)
+      → at' ≡ at - 1 → new' ≡ set new at' (get_or letters j 0) → j' ≡ get_or parents j 0 → Writing parents letters from count old new' at' j'
+  writing-step {at} {at'} {j} {old = old} {new} w f e z y =
+      let g = further-of w.path f in
+      let a = get_or letters j 0 in
+      let up : at ≡ suc at' = omega (arith, w.place, g.longer) in
       rw (y, z) (record {
-        word = g .before;
-        done = a ∷ w .done;
-        path = g .path;
-        place = omega (arith, w .place, g .longer);
-        parts = omega (arith, w .parts);
-        whole = λ v u. w .whole v u ∙ ap (λ (x : List ℕ). x ++ w .done) (g .splits) ∙ append-assoc (g .before) (a ∷ []) (w .done);
-        below = w .below;
-        content = ap (λ (x : List ℕ). set x at′ a) (w .content ∙ ap (λ (n : ℕ). take n old ++ (w .done ++ drop count old)) up) ∙ put old (w .done) at′ a count (omega (arith, w .below, w .parts));
-        long = simp length-set (w .long);
+        word = g.before;
+        done = a ∷ w.done;
+        path = g.path;
+        place = omega (arith, w.place, g.longer);
+        parts = omega (arith, w.parts);
+        whole = λ v u. w.whole v u ∙ ap (λ (x : List ℕ). x ++ w.done) g.splits ∙ append_assoc g.before (a ∷ []) w.done;
+        below = w.below;
+        content = ap (λ (x : List ℕ). set x at' a) (w.content ∙ ap (λ (n : ℕ). take n old ++ (w.done ++ drop count old)) up) ∙ put old w.done at' a count (omega (arith, w.below, w.parts));
+        long = simp length-set w.long;
       })
 
   pub writing-done : {at j last r : ℕ} {old new : List ℕ} → Writing parents letters from count (set old count last) new at j → j ≡ 0 → r ≡ count + 1
@@ -95,28 +95,28 @@ module _ {parents letters : List ℕ} {from count : ℕ} where
       record {
         all = λ u p. (
           z ∙ ap (λ (n : ℕ). n + 1) (sym (len u p)),
-          w .content ∙ ap (λ (n : ℕ). take n (set old count last) ++ (w .done ++ drop count (set old count last))) at-start
+          w.content ∙ ap (λ (n : ℕ). take n (set old count last) ++ (w.done ++ drop count (set old count last))) at-start
               ∙ ap₂ (λ (x y : List ℕ). x ++ y) (sym (word u p)) (tail u p)
-              ∙ sym (append-assoc u (last ∷ []) (drop (length (u ++ (last ∷ []))) old)),
+              ∙ sym (append_assoc u (last ∷ []) (drop (length (u ++ (last ∷ []))) old)),
         );
       }
     where
-      none : w .word ≡ []
-      none = ended-of (w .path) e
+      none : w.word ≡ []
+      none = ended-of w.path e
 
       at-start : at ≡ 0
-      at-start = w .place ∙ ap length none
+      at-start = w.place ∙ ap length none
 
-      word : (u : List ℕ) → Path parents letters from u → u ≡ w .done
-      word u p = w .whole u p ∙ ap (λ (x : List ℕ). x ++ w .done) none
+      word : (u : List ℕ) → Path parents letters from u → u ≡ w.done
+      word u p = w.whole u p ∙ ap (λ (x : List ℕ). x ++ w.done) none
 
       len : (u : List ℕ) → Path parents letters from u → length u ≡ count
-      len u p = ap length (word u p) ∙ omega (arith, w .parts, at-start)
+      len u p = ap length (word u p) ∙ omega (arith, w.parts, at-start)
 
       l : count < length old
-      l = rw length-set at (w .below)
+      l = rw length-set at w.below
 
       tail : (u : List ℕ) → Path parents letters from u → drop count (set old count last) ≡ last ∷ drop (length (u ++ (last ∷ []))) old
       tail u p =
           let n : length (u ++ (last ∷ [])) ≡ suc count = length-append u (last ∷ []) ∙ ap (λ (m : ℕ). m + 1) (len u p) ∙ add-one count in
-          ap (drop count) (set-split old count last l) ∙ drop-at (take count old) (last ∷ drop (suc count) old) count (length-take-le count old (omega (arith, l))) ∙ rw n
+          ap (drop count) (set_split old count last l) ∙ drop_at (take count old) (last ∷ drop (suc count) old) count (length-take-le count old (omega (arith, l))) ∙ rw n

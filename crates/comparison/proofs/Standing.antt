@@ -1,20 +1,20 @@
 -- The records that stand in the lent columns: their columns, one record stored after them, and records laid over columns. Assumes nothing.
-use mathlib.Core.Path.{_≡_, refl, sym, ap, ap₂, _∙_}
-use mathlib.Core.List.{List, [], _∷_, _++_, map}
-use Prim.Native.Nat.{ℕ, zero, suc, _+_, _≤_, _<_}
+use mathlib.Core.Path.{◌≡◌, refl, sym, ap, ap₂, ◌∙◌}
+use mathlib.Core.List.{List, [], ◌∷◌, ◌++◌, map}
+use Prim.Native.Nat.{ℕ, zero, suc, ◌+◌, ◌≤◌, ◌<◌}
 use native.Mathlib.Numerals.{add-one}
 use native.Mathlib.Omega.{arith}
-use lib.ListN.{length, getD, take, set, length-append, length-map}
-use lib.Seq.{take-suc, getD-set-same, getD-set-other}
-use Rattle·lent.specs.Lent.{lay}
-use Rattle·lent.proofs.Laying.{lay-more, length-lay, take-lay}
-use Rattle·walk.specs.Walk.{Record}
-use Rattle·walk.specs.Columns.{Field, value, Columns, column, columnsOf, recordAt, layColumns, store, firsts, Fit}
-use Rattle·walk.proofs.Columns.{value-by, column-each, record-path, columns-path, fit-at, column-snoc}
-use Rattle·comparison·specs.specs.Answers.{Lent}
-use Rattle·comparison·specs.specs.Inner.{recordsOf}
+use lib.ListN.{length, get_or, take, set, length-append, length-map}
+use lib.Seq.{take-suc, get_or-set_same, get_or-set_other}
+use Rattle.lent.specs.Lent.{lay}
+use Rattle.lent.proofs.Laying.{lay-more, length-lay, take-lay}
+use Rattle.walk.specs.Walk.{Record}
+use Rattle.walk.specs.Columns.{Field, value, Columns, column, columnsOf, recordAt, layColumns, store, firsts, Fit}
+use Rattle.walk.proofs.Columns.{value-by, column-each, record-path, columns-path, fit-at, column-snoc}
+use Rattle.comparison.specs.Answers.{Lent}
+use Rattle.comparison.specs.Inner.{recordsOf}
 
-pub lent-path : {a b : Lent} → a .columns ≡ b .columns → a .sequence ≡ b .sequence → a ≡ b
+pub lent-path : {a b : Lent} → a.columns ≡ b.columns → a.sequence ≡ b.sequence → a ≡ b
 lent-path p q i = record { columns = p i; sequence = q i }
 
 -- ---- the first records
@@ -29,7 +29,7 @@ unfolding recordsOf
 column-shown c x zero h = refl
 column-shown c x (suc n) h =
     column-snoc (value x) (recordsOf c n) (recordAt c n)
-    ∙ ap₂ (λ (u : List ℕ) (a : ℕ). u ++ (a ∷ [])) (column-shown c x n (omega arith)) (value-by (λ (y : Field). getD (column y c) n 0) x)
+    ∙ ap₂ (λ (u : List ℕ) (a : ℕ). u ++ (a ∷ [])) (column-shown c x n (omega arith)) (value-by (λ (y : Field). get_or (column y c) n 0) x)
     ∙ sym (take-suc (column x c) n 0 h)
 
 -- their columns are the first places of the columns
@@ -49,13 +49,13 @@ module _ (c : Columns) (n : ℕ) (r : Record) where
 
   stored-other : (i : ℕ) → i < n → recordAt (store n r c) i ≡ recordAt c i
   stored-other i h =
-      record-path (λ (x : Field). getD (column x (store n r c)) i 0) (λ (x : Field). getD (column x c) i 0)
-      (λ x. ap (λ (l : List ℕ). getD l i 0) (stored x) ∙ getD-set-other (column x c) n i (value x r) 0 (omega arith))
+      record-path (λ (x : Field). get_or (column x (store n r c)) i 0) (λ (x : Field). get_or (column x c) i 0)
+      (λ x. ap (λ (l : List ℕ). get_or l i 0) (stored x) ∙ get_or-set_other (column x c) n i (value x r) 0 (omega arith))
 
   stored-there : Fit (suc n) c → recordAt (store n r c) n ≡ r
   stored-there fit =
-      record-path (λ (x : Field). getD (column x (store n r c)) n 0) (λ (x : Field). value x r)
-      (λ x. ap (λ (l : List ℕ). getD l n 0) (stored x) ∙ getD-set-same (column x c) n (value x r) 0 (fit-at fit x))
+      record-path (λ (x : Field). get_or (column x (store n r c)) n 0) (λ (x : Field). value x r)
+      (λ x. ap (λ (l : List ℕ). get_or l n 0) (stored x) ∙ get_or-set_same (column x c) n (value x r) 0 (fit-at fit x))
 
   -- a record stored at the next place is one record more
   pub records-store : Fit (suc n) c → recordsOf (store n r c) (suc n) ≡ recordsOf c n ++ (r ∷ [])

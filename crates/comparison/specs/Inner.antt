@@ -1,30 +1,20 @@
 -- What the contracts of the private functions cite. No promise to a host rests on this file.
---   Tests              the verdict of the comparison's tests on lent slices
 --   Spellable, Spelt   a path that can be written as a sequence, and the sequence written
 --   Proposable, Proposed
 --                      a number that has a candidate, and the candidate as the code makes it
 --   recordsOf          the first records of the lent list; standing: the position that they make
 --   Ready, DealtWith   a position from which the walk can go on, and what dealing with one candidate leaves
---   callNow, Deals     the call as it is when a function begins; what dealing leaves, of lent slices
-use mathlib.Core.Path.{_≡_}
-use mathlib.Core.List.{List, [], _∷_, _++_}
-use Prim.Native.Nat.{ℕ, zero, suc, _+_, _*_, _≤_, _<_}
-use lib.ListN.{length, getD}
-use denote.Ref.{RefT, now}
-use Rattle·verdict.specs.declared.Verdict.{Verdict}
-use Rattle·lent.specs.Lent.{Slice, before, after, lay}
-use Rattle·pattern.specs.Pattern.{Valid}
-use Rattle·walk.specs.Walk.{questionOf, Record, leftsOf, rightsOf, candidate, Position, upcoming, Remains, skip, keep, Moves, Path, Ends}
-use Rattle·walk.specs.Walk.Outcome.{Different, Full}
-use Rattle·walk.specs.Columns.{Columns, recordAt, store}
-use Rattle·comparison·specs.specs.Answers.{Lent, lentOf, Call, callOf, compareTest, lentBefore, lentAfter}
-use Rattle·comparison·specs.specs.Meaning.{Roomy}
-use Rattle·comparison·specs.specs.declared.Dealt.{Dealt}
-use Rattle·comparison·specs.specs.declared.Candidate.{Candidate}
-
-abbrev pub Tests : ℕ → ℕ → ℕ → Slice → ℕ → ℕ → ℕ → Slice → Slice → Slice → Slice → Slice → Verdict → Type 0
-Tests states letters finals rows x y room lefts rights parents taken sequence verdict =
-    verdict ≡ compareTest (callOf states letters finals (before rows) x y room (lentBefore lefts rights parents taken sequence))
+--   Deals              what dealing leaves, of lent slices
+use Rattle.std.specs.Prelude.{◌≡◌, List, [], ◌∷◌, ◌++◌, ℕ, zero, suc, ◌+◌, ◌*◌, ◌≤◌, ◌<◌, length, get_or}
+use Rattle.lent.specs.Lent.{Slice, lay}
+use Rattle.pattern.specs.Pattern.{Valid}
+use Rattle.walk.specs.Walk.{questionOf, Record, leftsOf, rightsOf, candidate, Position, upcoming, Remains, skip, keep, Moves, Path, Ends}
+use Rattle.walk.specs.Walk.Outcome.{Different, Full}
+use Rattle.walk.specs.Columns.{Columns, recordAt, store}
+use Rattle.comparison.specs.Answers.{Lent, Call, callOf, lentBefore, lentAfter}
+use Rattle.comparison.specs.Meaning.{Roomy}
+use Rattle.comparison.specs.declared.Dealt.{Dealt}
+use Rattle.comparison.specs.declared.Candidate.{Candidate}
 
 -- the path of a record, and one letter after it, fit the sequence bytes
 pub record Spellable (parents taken : List ℕ) (from : ℕ) (sequence : List ℕ) : Type 0 where
@@ -37,11 +27,8 @@ pub record Spellable (parents taken : List ℕ) (from : ℕ) (sequence : List �
 pub record Spelt (parents taken : List ℕ) (from last : ℕ) (old new : List ℕ) (r : ℕ) : Type 0 where
   pub all : (w : List ℕ) → Path parents taken from w → (r ≡ length w + 1) × (new ≡ lay (w ++ (last ∷ [])) old)
 
-abbrev pub Spells : Slice → Slice → ℕ → ℕ → Slice → ℕ → Type 0
-Spells parents taken from last sequence r = Spelt (before parents) (before taken) from last (before sequence) (after sequence) r
-
 abbrev pub recordOf : Candidate → Record
-recordOf r = record { left = r .left; right = r .right; parent = r .parent; letter = r .letter }
+recordOf r = record { left = r.left; right = r.right; parent = r.parent; letter = r.letter }
 
 -- a table of rows, two sides of the same records, and a candidate of that number
 pub record Proposable (states letters : ℕ) (rows lefts rights : List ℕ) (examined : ℕ) : Type 0 where
@@ -56,45 +43,37 @@ pub record Proposed (states letters : ℕ) (rows : List ℕ) (x y : ℕ) (lefts 
   pub all : (finals : ℕ) (kept : List Record) → leftsOf kept ≡ lefts → rightsOf kept ≡ rights
       → recordOf r ≡ candidate (questionOf states letters finals rows x y) kept examined
 
-abbrev pub Proposes : ℕ → ℕ → Slice → ℕ → ℕ → Slice → Slice → ℕ → Candidate → Type 0
-Proposes states letters rows x y lefts rights examined r = Proposed states letters (before rows) x y (before lefts) (before rights) examined r
-
 unfoldable pub recordsOf : Columns → ℕ → List Record
 recordsOf l zero = []
 recordsOf l (suc n) = recordsOf l n ++ (recordAt l n ∷ [])
 
 abbrev pub standing : Lent → ℕ → ℕ → Position
-standing l kept examined = record { kept = recordsOf (l .columns) kept; examined = examined }
+standing l kept examined = record { kept = recordsOf l.columns kept; examined = examined }
 
 -- each record but the first has an earlier parent
 pub record Ready (c : Call) (kept examined : ℕ) : Type 0 where
-  pub valid : Valid (c .question .pattern)
-  pub roomy : Roomy (c .room) (c .lent)
-  pub within : kept ≤ c .room
-  pub remains : Remains (c .question) (standing (c .lent) kept examined)
-  pub earlier : (i : ℕ) → 0 < i → i < kept → getD (c .lent .columns .parents) i 0 < i
+  pub valid : Valid c.question.pattern
+  pub roomy : Roomy c.room c.lent
+  pub within : kept ≤ c.room
+  pub remains : Remains c.question (standing c.lent kept examined)
+  pub earlier : (i : ℕ) → 0 < i → i < kept → get_or c.lent.columns.parents i 0 < i
 
 -- a record stored at place n; a word written over the sequence bytes
 abbrev pub keepAt : ℕ → Record → Lent → Lent
-keepAt n r l = record { columns = store n r (l .columns); sequence = l .sequence }
+keepAt n r l = record { columns = store n r l.columns; sequence = l.sequence }
 
 abbrev pub write : List ℕ → Lent → Lent
-write w l = record { columns = l .columns; sequence = lay w (l .sequence) }
+write w l = record { columns = l.columns; sequence = lay w l.sequence }
 
 pub data DealtWith (c : Call) (n e : ℕ) : Dealt → Lent → Type 0 where
-  skips : Moves (c .question) (c .room) (standing (c .lent) n e) (skip (standing (c .lent) n e)) → DealtWith c n e (Dealt.On n) (c .lent)
-  keeps : Moves (c .question) (c .room) (standing (c .lent) n e) (keep (c .question) (standing (c .lent) n e))
-      → DealtWith c n e (Dealt.On (n + 1)) (keepAt n (upcoming (c .question) (standing (c .lent) n e)) (c .lent))
-  tells : {w : List ℕ} → Ends (c .question) (c .room) (standing (c .lent) n e) (Different (recordsOf (c .lent .columns) n) (suc e) w)
-      → DealtWith c n e (Dealt.Different (length w)) (write w (c .lent))
-  fills : Ends (c .question) (c .room) (standing (c .lent) n e) (Full (recordsOf (c .lent .columns) n) (suc e)) → DealtWith c n e Dealt.Full (c .lent)
+  skips : Moves c.question c.room (standing c.lent n e) (skip (standing c.lent n e)) → DealtWith c n e (Dealt.On n) c.lent
+  keeps : Moves c.question c.room (standing c.lent n e) (keep c.question (standing c.lent n e))
+      → DealtWith c n e (Dealt.On (n + 1)) (keepAt n (upcoming c.question (standing c.lent n e)) c.lent)
+  tells : {w : List ℕ} → Ends c.question c.room (standing c.lent n e) (Different (recordsOf c.lent.columns n) (suc e) w)
+      → DealtWith c n e (Dealt.Different (length w)) (write w c.lent)
+  fills : Ends c.question c.room (standing c.lent n e) (Full (recordsOf c.lent.columns n) (suc e)) → DealtWith c n e Dealt.Full c.lent
 
--- what is lent, and the call, as they are when a function begins
-abbrev pub callNow : ℕ → ℕ → ℕ → RefT (List ℕ) → ℕ → ℕ → ℕ → RefT (List ℕ) → RefT (List ℕ) → RefT (List ℕ) → RefT (List ℕ) → RefT (List ℕ) → Call
-callNow states letters finals rows x y room lefts rights parents taken sequence =
-    callOf states letters finals (now rows) x y room (lentOf (now lefts) (now rights) (now parents) (now taken) (now sequence))
-
-abbrev pub Deals : ℕ → ℕ → ℕ → Slice → ℕ → ℕ → ℕ → ℕ → ℕ → Slice → Slice → Slice → Slice → Slice → Dealt → Type 0
+abbrev pub Deals : ℕ → ℕ → ℕ → List ℕ → ℕ → ℕ → ℕ → ℕ → ℕ → Slice → Slice → Slice → Slice → Slice → Dealt → Type 0
 Deals states letters finals rows x y room kept examined lefts rights parents taken sequence dealt =
-    DealtWith (callOf states letters finals (before rows) x y room (lentBefore lefts rights parents taken sequence)) kept examined dealt
+    DealtWith (callOf states letters finals rows x y room (lentBefore lefts rights parents taken sequence)) kept examined dealt
     (lentAfter lefts rights parents taken sequence)

@@ -1,13 +1,11 @@
 -- The scope's questions with known answers (§11), as a call answers them: the rows of walk's table.
-use mathlib.Core.Path.{_≡_}
-use mathlib.Core.List.{List, [], _∷_}
-use Prim.Native.Nat.{ℕ}
-use Rattle·walk.specs.Walk.{Question, Record, Outcome, keptOf, wordOf}
-use Rattle·walk.specs.Known.{Row}
-use Rattle·walk.specs.Known.Row.{asks, closes}
-use Rattle·comparison·specs.specs.Answers.{Lent, answerOf, layOut, Compared}
-use Rattle·comparison·specs.specs.Meaning.{Roomy}
-use Rattle·comparison·specs.specs.declared.Answer.{Answer}
+use Rattle.std.specs.Prelude.{◌≡◌, List, [], ◌∷◌, ℕ}
+use Rattle.walk.specs.Walk.{Question, Record, Outcome, keptOf, wordOf}
+use Rattle.walk.specs.Known.{Row}
+use Rattle.walk.specs.Known.Row.{asks, closes}
+use Rattle.comparison.specs.Answers.{Lent, answerOf, layOut, Compared}
+use Rattle.comparison.specs.Meaning.{Roomy}
+use Rattle.comparison.specs.declared.Answer.{Answer}
 
 -- answer, values and memory, whatever is lent for the room
 pub record Gives (Q : Question) (room : ℕ) (o : Outcome) : Type 0 where

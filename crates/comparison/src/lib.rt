@@ -1,15 +1,18 @@
 // The comparison of two sets of states: the walk of the scope (§5) over lent number slices.
-ghost use mathlib.Core.Path.{_≡_};
-ghost use lib.Dec.{leb};
-ghost use Rattle·verdict.specs.Tests.{need, each};
-ghost use Rattle·verdict.specs.declared.Verdict.the-variants.{Fine};
-ghost use Rattle·sets.specs.Rooms.{defaultRoom};
-ghost use Rattle·comparison·specs.specs.Answers.{compareTest, Compares};
-ghost use Rattle·comparison·specs.specs.Inner.{Tests, Spellable, Spells, Proposable, Proposes, Ready, callNow, Deals};
+#![tactic(auto)]
+
+ghost use Rattle.std.specs.Prelude.{◌≡◌, leb};
+ghost use Rattle.verdict.specs.Tests.{need, each};
+ghost use Rattle.verdict.specs.declared.Verdict.TheVariants.{Fine};
+ghost use Rattle.sets.specs.Rooms.{defaultRoom};
+ghost use Rattle.comparison.specs.Answers.{lentOf, callOf, compareTest, Compares};
+ghost use Rattle.comparison.specs.Inner.{Spellable, Spelt, Proposable, Proposed, Ready, Deals};
+
 use sets::States;
 use verdict::Verdict;
 
 // What a comparison answers: kept, examined and, for DIFFERENT, length; or the number of a refusal.
+#[derive(Drop)]
 pub enum Answer {
     Same(usize, usize),
     Different(usize, usize, usize),
@@ -19,7 +22,7 @@ pub enum Answer {
 
 // BAD-ROOM: the room is at most each of the bounds.
 fn room_test(room: usize, bounds: &[usize]) -> Verdict
-    ensures { λ r. ⌜ r ≡ each (λ most. need (leb room most) 13) (now (bounds .entry)) ⌝ }
+    ensures { result ≡ each (λ most. need (leb room most) 13) bounds.now }
 {
     let mut i = 0;
     while i < bounds.len() {
@@ -47,7 +50,7 @@ fn compare_test(
     taken: &[u8],
     sequence: &[u8],
 ) -> Verdict
-    ensures { λ r. ⌜ Tests states letters finals rows x y room lefts rights parents taken sequence r ⌝ }
+    ensures { result ≡ compareTest (callOf states letters finals rows.now x y room (lentOf lefts.now rights.now parents.now taken.now sequence.now)) }
 {
     let shape = pattern::shape_test(states, letters, rows);
     let Verdict::Fine = shape else {
@@ -77,6 +80,7 @@ fn compare_test(
 }
 
 // A candidate: its two sets, and the record and the letter that they came from.
+#[derive(Drop)]
 struct Candidate {
     left: u64,
     right: u64,
@@ -95,8 +99,8 @@ fn propose(
     rights: &[u64],
     examined: usize,
 ) -> Candidate
-    requires { ⌜ Proposable states letters (now rows) (now lefts) (now rights) examined ⌝ }
-    ensures { λ r. ⌜ Proposes states letters rows x y lefts rights examined r ⌝ }
+    requires { Proposable states letters rows.now lefts.now rights.now examined }
+    ensures { Proposed states letters rows.now x y lefts.now rights.now examined result }
 {
     if examined == 0 {
         return Candidate {
@@ -120,7 +124,7 @@ fn propose(
 }
 
 fn wide(x: u16) -> usize
-    ensures { λ r. ⌜ r ≡ x ⌝ }
+    ensures { result ≡ x }
 {
     x as usize
 }
@@ -128,8 +132,8 @@ fn wide(x: u16) -> usize
 // Writes the letters from the start to record `from`, and `last` after them; gives how many they are.
 // The way up is gone twice, to count the letters and then to write them from the end: no second buffer.
 fn spell(parents: &[u16], taken: &[u8], from: usize, last: u8, sequence: &mut [u8]) -> usize
-    requires { ⌜ Spellable (now parents) (now taken) from (now sequence) ⌝ }
-    ensures { λ r. ⌜ Spells parents taken from last sequence r ⌝ }
+    requires { Spellable parents.now taken.now from sequence.old }
+    ensures { Spelt parents.now taken.now from last sequence.old sequence.new result }
 {
     let mut count = 0;
     let mut i = from;
@@ -149,6 +153,7 @@ fn spell(parents: &[u16], taken: &[u8], from: usize, last: u8, sequence: &mut [u
 }
 
 // What became of one candidate: the walk goes on with so many records kept, or it stops.
+#[derive(Drop)]
 enum Dealt {
     On(usize),
     Different(usize),
@@ -172,8 +177,8 @@ fn deal(
     taken: &mut [u8],
     sequence: &mut [u8],
 ) -> Dealt
-    requires { ⌜ Ready (callNow states letters finals rows x y room lefts rights parents taken sequence) kept examined ⌝ }
-    ensures { λ r. ⌜ Deals states letters finals rows x y room kept examined lefts rights parents taken sequence r ⌝ }
+    requires { Ready (callOf states letters finals rows.now x y room (lentOf lefts.old rights.old parents.old taken.old sequence.old)) kept examined }
+    ensures { Deals states letters finals rows.now x y room kept examined lefts rights parents taken sequence result }
 {
     let next = propose(
         states,
@@ -226,27 +231,15 @@ fn run(
     taken: &mut [u8],
     sequence: &mut [u8],
 ) -> Answer
-    requires { ⌜ compareTest (callNow states letters finals rows x y room lefts rights parents taken sequence) ≡ Fine ⌝ }
-    ensures { λ r. ⌜ Compares states letters finals rows x y room lefts rights parents taken sequence r ⌝ }
+    requires { compareTest (callOf states letters finals rows.now x y room (lentOf lefts.old rights.old parents.old taken.old sequence.old)) ≡ Fine }
+    ensures { Compares states letters finals rows.now x y room lefts rights parents taken sequence result }
 {
     let mut kept = 0;
     let mut examined = 0;
     while examined < 1 + letters * kept {
         let dealt = deal(
-            states,
-            letters,
-            finals,
-            rows,
-            x,
-            y,
-            room,
-            kept,
-            examined,
-            lefts,
-            rights,
-            parents,
-            taken,
-            sequence,
+            states, letters, finals, rows, x, y, room, kept, examined, lefts, rights, parents,
+            taken, sequence,
         );
         match dealt {
             Dealt::On(more) => {
@@ -279,38 +272,16 @@ pub fn compare(
     taken: &mut [u8],
     sequence: &mut [u8],
 ) -> Answer
-    ensures { λ r. ⌜ Compares states letters finals rows x y room lefts rights parents taken sequence r ⌝ }
+    ensures { Compares states letters finals rows.now x y room lefts rights parents taken sequence result }
 {
     let test = compare_test(
-        states,
-        letters,
-        finals,
-        rows,
-        x,
-        y,
-        room,
-        lefts,
-        rights,
-        parents,
-        taken,
-        sequence,
+        states, letters, finals, rows, x, y, room, lefts, rights, parents, taken, sequence,
     );
     if let Verdict::Against(number) = test {
         return Answer::Refused(number);
     }
     run(
-        states,
-        letters,
-        finals,
-        rows,
-        x,
-        y,
-        room,
-        lefts,
-        rights,
-        parents,
-        taken,
-        sequence,
+        states, letters, finals, rows, x, y, room, lefts, rights, parents, taken, sequence,
     )
 }
 
@@ -328,7 +299,7 @@ pub fn compare_default(
     taken: &mut [u8],
     sequence: &mut [u8],
 ) -> Answer
-    ensures { λ r. ⌜ Compares states letters finals rows x y defaultRoom lefts rights parents taken sequence r ⌝ }
+    ensures { Compares states letters finals rows.now x y defaultRoom lefts rights parents taken sequence result }
 {
     compare(
         states,

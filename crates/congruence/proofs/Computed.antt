@@ -1,43 +1,43 @@
 -- Closing as a function that computes: passes until one adds nothing. So congruence by a list of pairs is decided. Assumes nothing.
-use mathlib.Core.Path.{_≡_, refl, sym}
+use mathlib.Core.Path.{◌≡◌, refl, sym}
 use mathlib.Core.Bool.{Bool, true, false, cond, true≢false}
-use mathlib.Core.List.{List, [], _∷_}
-use Prim.Native.Nat.{ℕ, zero, suc, _+_, _≤_, _<_}
-use native.Mathlib.Decide.{ℕ-discrete}
+use mathlib.Core.List.{List, [], ◌∷◌}
+use Prim.Native.Nat.{ℕ, zero, suc, ◌+◌, ◌≤◌, ◌<◌}
+use native.Mathlib.Decide.{ℕ_discrete}
 use native.Mathlib.Numerals.{add-one}
 use native.Mathlib.Omega.{arith}
-use lib.ListN.{length, getD}
-use lib.Bits.{bitOr, bitAnd}
+use lib.ListN.{length, get_or}
+use lib.Bits.{bit_or, bit_and}
 use lib.Dec.{eqb}
 use borrow.Author.Tests.{eqb-true, eqb-false}
-use Rattle·sets.specs.Sets.{Within}
-use Rattle·sets.proofs.Inclusion.{within-trans, within-left, within-right, within-le, within-test}
-use Rattle·sets.proofs.Growing.{Stepped, Passed, took, passed-by, stepped-both, passed-none, passed-more}
-use Rattle·congruence·specs.specs.Congruence.{Congruent, Listed}
-use Rattle·congruence·specs.specs.Closing.{Grows, Closed, Closes}
-use Rattle·congruence·specs.specs.Closing.Grows.{nothing, right, left}
-use Rattle·congruence·proofs.proofs.Growth.{grown-on, grown-under}
-use Rattle·congruence·proofs.proofs.Passes.{StillAt, passed-closed}
-use Rattle·congruence·proofs.proofs.Deciding.{closing-decides}
+use Rattle.sets.specs.Sets.{Within}
+use Rattle.sets.proofs.Inclusion.{within-trans, within-left, within-right, within-le, within-test}
+use Rattle.sets.proofs.Growing.{Stepped, Passed, took, passed-by, stepped-both, passed-none, passed-more}
+use Rattle.congruence.specs.Congruence.{Congruent, Listed}
+use Rattle.congruence.specs.Closing.{Grows, Closed, Closes}
+use Rattle.congruence.specs.Closing.Grows.{nothing, right, left}
+use Rattle.congruence.proofs.Growth.{grown-on, grown-under}
+use Rattle.congruence.proofs.Passes.{StillAt, passed-closed}
+use Rattle.congruence.proofs.Deciding.{closing-decides}
 
 -- ---- one pass
 
 -- where a lies within m, b is added
 unfoldable pub added : ℕ → ℕ → ℕ → ℕ
-added a b m = cond (eqb (bitAnd a m) a) (bitOr b m) m
+added a b m = cond (eqb (bit_and a m) a) (bit_or b m) m
 
 -- m after the first i pairs
 unfoldable pub passed : List ℕ → List ℕ → ℕ → ℕ → ℕ
 passed ls rs zero m = m
-passed ls rs (suc i) m = added (getD rs i 0) (getD ls i 0) (added (getD ls i 0) (getD rs i 0) (passed ls rs i m))
+passed ls rs (suc i) m = added (get_or rs i 0) (get_or ls i 0) (added (get_or ls i 0) (get_or rs i 0) (passed ls rs i m))
 
-added-stepped : {Keeps : ℕ → Type 0} (a b m : ℕ) → Keeps m → (Within a m → Keeps (bitOr b m)) → Stepped Keeps (Within a m → Within b m) m (added a b m)
+added-stepped : {Keeps : ℕ → Type 0} (a b m : ℕ) → Keeps m → (Within a m → Keeps (bit_or b m)) → Stepped Keeps (Within a m → Within b m) m (added a b m)
 unfolding added
-added-stepped {Keeps} a b m k f = pick (eqb (bitAnd a m) a) refl
+added-stepped {Keeps} a b m k f = pick (eqb (bit_and a m) a) refl
   where
-    pick : (t : Bool) → eqb (bitAnd a m) a ≡ t → Stepped Keeps (Within a m → Within b m) m (cond t (bitOr b m) m)
-    pick true e = took (f (within-test a m .0 (eqb-true _ _ e))) refl
-    pick false e = passed-by k (λ w. eqb-false _ _ e (within-test a m .1 w)) refl
+    pick : (t : Bool) → eqb (bit_and a m) a ≡ t → Stepped Keeps (Within a m → Within b m) m (cond t (bit_or b m) m)
+    pick true e = took (f ((within-test a m).0 (eqb-true _ _ e))) refl
+    pick false e = passed-by k (λ w. eqb-false _ _ e ((within-test a m).1 w)) refl
 
 module _ (ls rs : List ℕ) where
   passed-first : (m i : ℕ) → i ≤ length ls → Passed (Grows (Listed ls rs) m) (StillAt ls rs) (length ls) m i (passed ls rs i m)
@@ -45,11 +45,11 @@ module _ (ls rs : List ℕ) where
   passed-first m zero l = passed-none nothing
   passed-first m (suc i) l =
       let p = passed-first m i (omega arith) in
-      let a = getD ls i 0 in
-      let b = getD rs i 0 in
+      let a = get_or ls i 0 in
+      let b = get_or rs i 0 in
       let pair : Listed ls rs a b = record { at = i; below = l; left = refl; right = refl } in
-      let s = added-stepped a b (passed ls rs i m) (p .grown .keeps) (λ w. right (p .grown .keeps) pair w) in
-      let t = added-stepped b a _ (s .grown .keeps) (λ w. left (s .grown .keeps) pair w) in
+      let s = added-stepped a b (passed ls rs i m) p.grown.keeps (λ w. right p.grown.keeps pair w) in
+      let t = added-stepped b a _ s.grown.keeps (λ w. left s.grown.keeps pair w) in
       rw add-one at (passed-more i l p (stepped-both (λ k. Within b k → Within a k) s t))
 
   whole : (m : ℕ) → Passed (Grows (Listed ls rs) m) (StillAt ls rs) (length ls) m (length ls) (passed ls rs (length ls) m)
@@ -66,16 +66,16 @@ passes (suc f) false ls rs m = passes f (eqb (passed ls rs (length ls) m) m) ls 
 -- the union of a list's sets
 unfoldable pub joined : List ℕ → ℕ
 joined [] = 0
-joined (a ∷ rest) = bitOr a (joined rest)
+joined (a ∷ rest) = bit_or a (joined rest)
 
 -- no mask on the way is larger than the union of the set and all sides, and that many passes are enough
 unfoldable pub top : List ℕ → List ℕ → ℕ → ℕ
-top ls rs set = bitOr (bitOr (joined ls) (joined rs)) set
+top ls rs set = bit_or (bit_or (joined ls) (joined rs)) set
 
 unfoldable pub closing : List ℕ → List ℕ → ℕ → ℕ
 closing ls rs set = passes (suc (top ls rs set)) false ls rs set
 
-within-joined : (sets : List ℕ) (i : ℕ) → Within (getD sets i 0) (joined sets)
+within-joined : (sets : List ℕ) (i : ℕ) → Within (get_or sets i 0) (joined sets)
 unfolding joined
 within-joined [] i = record { joins = refl }
 within-joined (a ∷ rest) zero = within-left a (joined rest)
@@ -85,11 +85,11 @@ module _ (ls rs : List ℕ) (set : ℕ) where
   under-top : {m : ℕ} → Grows (Listed ls rs) set m → Within m (top ls rs set)
   unfolding top
   under-top g =
-      let all = within-left (bitOr (joined ls) (joined rs)) set in
+      let all = within-left (bit_or (joined ls) (joined rs)) set in
       grown-under (λ a b r. (
-        rw (← r .left) (within-trans (within-joined ls (r .at)) (within-trans (within-left (joined ls) (joined rs)) all)),
-        rw (← r .right) (within-trans (within-joined rs (r .at)) (within-trans (within-right (joined ls) (joined rs)) all)),
-      )) (within-right (bitOr (joined ls) (joined rs)) set) g
+        rw (← r.left) (within-trans (within-joined ls r.at) (within-trans (within-left (joined ls) (joined rs)) all)),
+        rw (← r.right) (within-trans (within-joined rs r.at) (within-trans (within-right (joined ls) (joined rs)) all)),
+      )) (within-right (bit_or (joined ls) (joined rs)) set) g
 
   passes-closes : (f : ℕ) (ended : Bool) (m : ℕ) → Grows (Listed ls rs) set m → (ended ≡ true → Closed (Listed ls rs) m)
       → (ended ≡ false → top ls rs set < m + f) → Closes (Listed ls rs) set (passes f ended ls rs m)
@@ -98,18 +98,18 @@ module _ (ls rs : List ℕ) (set : ℕ) where
   passes-closes (suc f) true m g s l = record { grown = g; still = s refl }
   passes-closes zero false m g s l = absurd (omega (arith, l refl, within-le (under-top g)))
   passes-closes (suc f) false m g s l =
-      let m′ = passed ls rs (length ls) m in
+      let m' = passed ls rs (length ls) m in
       let p = whole ls rs m in
-      passes-closes f (eqb m′ m) m′ (grown-on g (p .grown .keeps)) (λ e. passed-closed (omega arith) p (eqb-true m′ m e))
-      (λ e. let n = eqb-false m′ m e in omega (arith, l refl, within-le (p .grown .within)))
+      passes-closes f (eqb m' m) m' (grown-on g p.grown.keeps) (λ e. passed-closed (omega arith) p (eqb-true m' m e))
+      (λ e. let n = eqb-false m' m e in omega (arith, l refl, within-le p.grown.within))
 
   pub closing-closes : Closes (Listed ls rs) set (closing ls rs set)
   unfolding closing
   closing-closes = passes-closes (suc (top ls rs set)) false set nothing (λ e. absurd (true≢false (sym e))) (λ e. omega arith)
 
 pub congruent-dec : (ls rs : List ℕ) (a b : ℕ) → Dec (Congruent (Listed ls rs) a b)
-congruent-dec ls rs a b = pick (ℕ-discrete (closing ls rs a) (closing ls rs b))
+congruent-dec ls rs a b = pick (ℕ_discrete (closing ls rs a) (closing ls rs b))
   where
     pick : Dec (closing ls rs a ≡ closing ls rs b) → Dec (Congruent (Listed ls rs) a b)
-    pick (yes e) = yes (closing-decides (closing-closes ls rs a) (closing-closes ls rs b) .1 e)
-    pick (no f) = no (λ h. f (closing-decides (closing-closes ls rs a) (closing-closes ls rs b) .0 h))
+    pick (yes e) = yes ((closing-decides (closing-closes ls rs a) (closing-closes ls rs b)).1 e)
+    pick (no f) = no (λ h. f ((closing-decides (closing-closes ls rs a) (closing-closes ls rs b)).0 h))

@@ -1,9 +1,9 @@
 -- The scope's list (2,4), (1,2): 1 closes to 7, and so does 4 (§11). One pass would leave 1 at 3. Assumes nothing.
-use mathlib.Core.List.{List, [], _∷_}
+use mathlib.Core.List.{List, [], ◌∷◌}
 use Prim.Native.Nat.{ℕ}
-use Rattle·congruence·specs.specs.Congruence.{Listed}
-use Rattle·congruence·specs.specs.Closing.{Closes}
-use Rattle·congruence·proofs.proofs.Computed.{added, passed, passes, joined, top, closing, closing-closes}
+use Rattle.congruence.specs.Congruence.{Listed}
+use Rattle.congruence.specs.Closing.{Closes}
+use Rattle.congruence.proofs.Computed.{added, passed, passes, joined, top, closing, closing-closes}
 
 abbrev lefts : List ℕ
 lefts = 2 ∷ 1 ∷ []

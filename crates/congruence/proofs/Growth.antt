@@ -1,12 +1,12 @@
 -- A set that grew by pairs: it lies within what it grew to, and is congruent to it; growth goes on, by more pairs too. Assumes nothing.
 use Prim.Native.Nat.{ℕ}
-use lib.Bits.{bitOr}
-use Rattle·sets.specs.Sets.{Within}
-use Rattle·sets.proofs.Inclusion.{within-refl, within-trans, within-right, within-union}
-use Rattle·congruence·specs.specs.Congruence.{Congruent}
-use Rattle·congruence·specs.specs.Congruence.Congruent.{given, same, back, on, union}
-use Rattle·congruence·specs.specs.Closing.{Grows}
-use Rattle·congruence·specs.specs.Closing.Grows.{nothing, right, left}
+use lib.Bits.{bit_or}
+use Rattle.sets.specs.Sets.{Within}
+use Rattle.sets.proofs.Inclusion.{within-refl, within-trans, within-right, within-union}
+use Rattle.congruence.specs.Congruence.{Congruent}
+use Rattle.congruence.specs.Congruence.Congruent.{given, same, back, on, union}
+use Rattle.congruence.specs.Closing.{Grows}
+use Rattle.congruence.specs.Closing.Grows.{nothing, right, left}
 
 pub grown-within : {R : ℕ → ℕ → Type 0} {set mask : ℕ} → Grows R set mask → Within set mask
 grown-within {R} {set} nothing = within-refl set
@@ -14,8 +14,8 @@ grown-within (right {a} {b} {mask} g r w) = within-trans (grown-within g) (withi
 grown-within (left {a} {b} {mask} g r w) = within-trans (grown-within g) (within-right a mask)
 
 -- what is congruent to a part of a mask is added to it
-add-side : {R : ℕ → ℕ → Type 0} {a b mask : ℕ} → Congruent R a b → Within a mask → Congruent R mask (bitOr b mask)
-add-side {R} {a} {b} {mask} p w = rw (w .joins) at (union p (same mask))
+add-side : {R : ℕ → ℕ → Type 0} {a b mask : ℕ} → Congruent R a b → Within a mask → Congruent R mask (bit_or b mask)
+add-side {R} {a} {b} {mask} p w = rw w.joins at (union p (same mask))
 
 pub grown-congruent : {R : ℕ → ℕ → Type 0} {set mask : ℕ} → Grows R set mask → Congruent R set mask
 grown-congruent {R} {set} nothing = same set
@@ -37,5 +37,5 @@ grown-monotone f (left g r w) = left (grown-monotone f g) (f _ _ r) w
 -- what has the set and both sides of every pair within it has all growth within it
 pub grown-under : {R : ℕ → ℕ → Type 0} {set mask top : ℕ} → ((a b : ℕ) → R a b → Within a top × Within b top) → Within set top → Grows R set mask → Within mask top
 grown-under f h nothing = h
-grown-under f h (right {a} {b} g r w) = within-union (f a b r .1) (grown-under f h g)
-grown-under f h (left {a} {b} g r w) = within-union (f a b r .0) (grown-under f h g)
+grown-under f h (right {a} {b} g r w) = within-union (f a b r).1 (grown-under f h g)
+grown-under f h (left {a} {b} g r w) = within-union (f a b r).0 (grown-under f h g)

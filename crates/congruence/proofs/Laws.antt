@@ -1,13 +1,13 @@
 -- The laws of congruence: it is the least; equal sets, more pairs, pairs that add nothing, what a letter does to it. Assumes nothing.
-use mathlib.Core.Path.{_≡_, refl, sym, _∙_}
+use mathlib.Core.Path.{◌≡◌, refl, sym, ◌∙◌}
 use mathlib.Core.List.{List}
 use Prim.Native.Nat.{ℕ}
-use Rattle·pattern.specs.Pattern.{Pattern}
-use Rattle·pattern.specs.Language.{next, accepts}
-use Rattle·pattern.proofs.Steps.{next-union}
-use Rattle·pattern.proofs.Words.{accepts-union}
-use Rattle·congruence·specs.specs.Congruence.{Congruence, Congruent}
-use Rattle·congruence·specs.specs.Congruence.Congruent.{given, same, back, on, union}
+use Rattle.pattern.specs.Pattern.{Pattern}
+use Rattle.pattern.specs.Language.{next, accepts}
+use Rattle.pattern.proofs.Steps.{next-union}
+use Rattle.pattern.proofs.Words.{accepts-union}
+use Rattle.congruence.specs.Congruence.{Congruence, Congruent}
+use Rattle.congruence.specs.Congruence.Congruent.{given, same, back, on, union}
 
 -- ---- the least congruence
 
@@ -17,10 +17,10 @@ congruent-laws = record { reflexive = same; symmetric = back; transitive = on; u
 -- a relation that has the given pairs and the four laws contains the congruence
 pub least : {R S : ℕ → ℕ → Type 0} → Congruence S → ((a b : ℕ) → R a b → S a b) → {a b : ℕ} → Congruent R a b → S a b
 least l f (given r) = f _ _ r
-least l f (same a) = l .reflexive a
-least l f (back h) = l .symmetric (least l f h)
-least l f (on h k) = l .transitive (least l f h) (least l f k)
-least l f (union h k) = l .unions (least l f h) (least l f k)
+least l f (same a) = l.reflexive a
+least l f (back h) = l.symmetric (least l f h)
+least l f (on h k) = l.transitive (least l f h) (least l f k)
+least l f (union h k) = l.unions (least l f h) (least l f k)
 
 -- ---- equal sets, other pairs
 

@@ -1,17 +1,17 @@
 -- What a pass over listed pairs keeps, and what it ends in. Assumes nothing.
-use mathlib.Core.Path.{_≡_}
-use mathlib.Core.Logic.{_↔_}
+use mathlib.Core.Path.{◌≡◌}
+use mathlib.Core.Logic.{◌↔◌}
 use mathlib.Core.List.{List}
-use Prim.Native.Nat.{ℕ, _-_, _^_, _≤_, _<_}
-use lib.ListN.{length, getD}
-use lib.Bits.{bitOr, or-lt}
-use Rattle·sets.specs.Sets.{Within, Good}
-use Rattle·sets.proofs.Inclusion.{within-trans}
-use Rattle·sets.proofs.Goodness.{good-within-all}
-use Rattle·sets.proofs.Growing.{Passed, passed-all}
-use Rattle·congruence·specs.specs.Congruence.{Listed}
-use Rattle·congruence·specs.specs.Closing.{Grows, Closed}
-use Rattle·congruence·specs.specs.Closing.Grows.{nothing, right, left}
+use Prim.Native.Nat.{ℕ, ◌-◌, ◌^◌, ◌≤◌, ◌<◌}
+use lib.ListN.{length, get_or}
+use lib.Bits.{bit_or, or_lt}
+use Rattle.sets.specs.Sets.{Within, Good}
+use Rattle.sets.proofs.Inclusion.{within-trans}
+use Rattle.sets.proofs.Goodness.{good-within-all}
+use Rattle.sets.proofs.Growing.{Passed, passed-all}
+use Rattle.congruence.specs.Congruence.{Listed}
+use Rattle.congruence.specs.Closing.{Grows, Closed}
+use Rattle.congruence.specs.Closing.Grows.{nothing, right, left}
 
 -- a mask that grew from the set, and fits
 pub record Held (R : ℕ → ℕ → Type 0) (set m : ℕ) : Type 0 where
@@ -22,24 +22,24 @@ module _ {R : ℕ → ℕ → Type 0} {set : ℕ} where
   pub held-none : set < 2 ^ 64 → Held R set set
   held-none h = record { grown = nothing; fits = h }
 
-  pub held-right : {a b m : ℕ} → R a b → b < 2 ^ 64 → Within a m → Held R set m → Held R set (bitOr b m)
-  held-right {a} {b} {m} r hb w h = record { grown = right (h .grown) r w; fits = or-lt 64 b m hb (h .fits) }
+  pub held-right : {a b m : ℕ} → R a b → b < 2 ^ 64 → Within a m → Held R set m → Held R set (bit_or b m)
+  held-right {a} {b} {m} r hb w h = record { grown = right h.grown r w; fits = or_lt 64 b m hb h.fits }
 
-  pub held-left : {a b m : ℕ} → R a b → a < 2 ^ 64 → Within b m → Held R set m → Held R set (bitOr a m)
-  held-left {a} {b} {m} r ha w h = record { grown = left (h .grown) r w; fits = or-lt 64 a m ha (h .fits) }
+  pub held-left : {a b m : ℕ} → R a b → a < 2 ^ 64 → Within b m → Held R set m → Held R set (bit_or a m)
+  held-left {a} {b} {m} r ha w h = record { grown = left h.grown r w; fits = or_lt 64 a m ha h.fits }
 
 -- pair j of the list adds nothing to m
 abbrev pub StillAt : List ℕ → List ℕ → ℕ → ℕ → Type 0
-StillAt ls rs j m = Within (getD ls j 0) m ↔ Within (getD rs j 0) m
+StillAt ls rs j m = Within (get_or ls j 0) m ↔ Within (get_or rs j 0) m
 
 -- a whole pass that added nothing leaves a closed mask
 pub passed-closed : {Keeps : ℕ → Type 0} {ls rs : List ℕ} {before m i : ℕ} → length ls ≤ i → Passed Keeps (StillAt ls rs) (length ls) before i m → m ≡ before
     → Closed (Listed ls rs) m
-passed-closed l p e a b r = rw (← r .left, ← r .right) (passed-all l p e (r .at) (r .below))
+passed-closed l p e a b r = rw (← r.left, ← r.right) (passed-all l p e r.at r.below)
 
 -- a set that has every state adds nothing by pairs of sets of those states
-pub every-state-closed : {n mask : ℕ} {ls rs : List ℕ} → ((j : ℕ) → Good n (getD ls j 0)) → ((j : ℕ) → Good n (getD rs j 0)) → Within (2 ^ n - 1) mask → Closed (Listed ls rs) mask
+pub every-state-closed : {n mask : ℕ} {ls rs : List ℕ} → ((j : ℕ) → Good n (get_or ls j 0)) → ((j : ℕ) → Good n (get_or rs j 0)) → Within (2 ^ n - 1) mask → Closed (Listed ls rs) mask
 every-state-closed f g w a b r = (
-  λ v. within-trans (good-within-all (rw (r .right) at (g (r .at)))) w,
-  λ v. within-trans (good-within-all (rw (r .left) at (f (r .at)))) w,
+  λ v. within-trans (good-within-all (rw r.right at (g r.at))) w,
+  λ v. within-trans (good-within-all (rw r.left at (f r.at))) w,
 )

@@ -4,16 +4,14 @@
 --   Closes R set closed      grown, and no pair adds anything: it decides congruence (`closing-decides`)
 --   Passes R set goal mask   what one pass over the pairs makes of the set: it may end early once the goal lies within
 --   Toward R set goal mask   grown until the goal lies within, or no pair adds anything: so much decides congruence too (`growing-decides`)
-use mathlib.Core.Path.{_≡_}
-use mathlib.Core.Logic.{_↔_, _⊎_}
-use Prim.Native.Nat.{ℕ}
-use lib.Bits.{bitOr}
-use Rattle·sets.specs.Sets.{Within}
+use Rattle.std.specs.Prelude.{◌≡◌, ◌↔◌, ◌⊎◌, ℕ}
+use Rattle.std.specs.Int.Bits.{bit_or}
+use Rattle.sets.specs.Sets.{Within}
 
 pub data Grows (R : ℕ → ℕ → Type 0) (set : ℕ) : ℕ → Type 0 where
   nothing : Grows R set set
-  right : {a b mask : ℕ} → Grows R set mask → R a b → Within a mask → Grows R set (bitOr b mask)
-  left : {a b mask : ℕ} → Grows R set mask → R a b → Within b mask → Grows R set (bitOr a mask)
+  right : {a b mask : ℕ} → Grows R set mask → R a b → Within a mask → Grows R set (bit_or b mask)
+  left : {a b mask : ℕ} → Grows R set mask → R a b → Within b mask → Grows R set (bit_or a mask)
 
 -- where one side of a pair lies within the set, so does the other
 abbrev pub Closed : (ℕ → ℕ → Type 0) → ℕ → Type 0

@@ -1,14 +1,15 @@
 // Closing a set by a list of pairs, and congruence decided by it.
-ghost use mathlib.Core.Path.{_≡_};
-ghost use lib.ListN.{length};
-ghost use Rattle·verdict.specs.Tests.{Decides};
-ghost use Rattle·congruence·specs.specs.Congruence.{Congruent, Listed};
-ghost use Rattle·congruence·specs.specs.Closing.{Closes, Passes, Toward};
+#![tactic(auto)]
+
+ghost use Rattle.std.specs.Prelude.{◌≡◌, length};
+ghost use Rattle.verdict.specs.Tests.{Decides};
+ghost use Rattle.congruence.specs.Congruence.{Congruent, Listed};
+ghost use Rattle.congruence.specs.Closing.{Closes, Passes, Toward};
 
 // One pass over the listed pairs: where one side of a pair lies within the set, the other is added. It ends once the goal lies within.
 pub fn pass(lefts: &[u64], rights: &[u64], set: u64, goal: u64) -> u64
-    requires { ⌜ length (now lefts) ≡ length (now rights) ⌝ }
-    ensures { λ r. ⌜ Passes (Listed (now (lefts .entry)) (now (rights .entry))) set goal r ⌝ }
+    requires { length lefts.now ≡ length rights.now }
+    ensures { Passes (Listed lefts.now rights.now) set goal result }
 {
     let mut mask = set;
     let mut i = 0;
@@ -31,8 +32,8 @@ pub fn pass(lefts: &[u64], rights: &[u64], set: u64, goal: u64) -> u64
 
 // The set grown by the listed pairs toward a goal: passes until one adds nothing, as it does where the goal lies within.
 pub fn grow(lefts: &[u64], rights: &[u64], set: u64, goal: u64) -> u64
-    requires { ⌜ length (now lefts) ≡ length (now rights) ⌝ }
-    ensures { λ r. ⌜ Toward (Listed (now (lefts .entry)) (now (rights .entry))) set goal r ⌝ }
+    requires { length lefts.now ≡ length rights.now }
+    ensures { Toward (Listed lefts.now rights.now) set goal result }
 {
     let mut mask = set;
     loop {
@@ -46,16 +47,16 @@ pub fn grow(lefts: &[u64], rights: &[u64], set: u64, goal: u64) -> u64
 
 // The set closed by the listed pairs: grown toward every state, so until no pair adds anything.
 pub fn close(lefts: &[u64], rights: &[u64], set: u64) -> u64
-    requires { ⌜ length (now lefts) ≡ length (now rights) ⌝ }
-    ensures { λ r. ⌜ Closes (Listed (now (lefts .entry)) (now (rights .entry))) set r ⌝ }
+    requires { length lefts.now ≡ length rights.now }
+    ensures { Closes (Listed lefts.now rights.now) set result }
 {
     grow(lefts, rights, set, u64::MAX)
 }
 
 // Whether two sets are congruent by the listed pairs: each grows until the other lies within. Leaves as soon as the first does not.
 pub fn congruent(lefts: &[u64], rights: &[u64], a: u64, b: u64) -> bool
-    requires { ⌜ length (now lefts) ≡ length (now rights) ⌝ }
-    ensures { λ r. ⌜ Decides (Congruent (Listed (now (lefts .entry)) (now (rights .entry))) a b) r ⌝ }
+    requires { length lefts.now ≡ length rights.now }
+    ensures { Decides (Congruent (Listed lefts.now rights.now) a b) result }
 {
     if !sets::within(b, grow(lefts, rights, a, b)) {
         return false;

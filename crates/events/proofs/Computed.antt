@@ -1,11 +1,11 @@
 -- A rule at every number below a bound, by one test that is computed; and lists of bytes compared by a test. Assumes nothing.
-use mathlib.Core.Path.{_≡_, refl}
-use mathlib.Core.Bool.{Bool, true, false, _&&_}
-use mathlib.Core.List.{List, [], _∷_}
-use Prim.Native.Nat.{ℕ, zero, suc, _<_}
-use native.Mathlib.Decide.{decLt}
+use mathlib.Core.Path.{◌≡◌, refl}
+use mathlib.Core.Bool.{Bool, true, false, ◌&&◌}
+use mathlib.Core.List.{List, [], ◌∷◌}
+use Prim.Native.Nat.{ℕ, zero, suc, ◌<◌}
+use native.Mathlib.Decide.{dec_lt}
 use native.Mathlib.Omega.{arith}
-use lib.Dec.{T, eqb, eqb→eq, eqb-refl}
+use lib.Dec.{T, eqb, eqb→eq, eqb_refl}
 
 pub both : (a b : Bool) → T (a && b) → T a × T b
 both true true t = (tt, tt)
@@ -20,9 +20,9 @@ every f (suc n) = f n && every f n
 pub every-at : (f : ℕ → Bool) (n : ℕ) → T (every f n) → (i : ℕ) → i < n → T (f i)
 every-at f zero t i h = absurd (omega arith)
 every-at f (suc n) t i h =
-    elim (decLt i n) [
-      | yes l ↦ every-at f n (both (f n) (every f n) t .1) i l
-      | no m ↦ let e : i ≡ n = omega arith in rw e (both (f n) (every f n) t .0)
+    elim (dec_lt i n) [
+      | yes l ↦ every-at f n (both (f n) (every f n) t).1 i l
+      | no m ↦ let e : i ≡ n = omega arith in rw e (both (f n) (every f n) t).0
     ]
 
 -- two lists of bytes are the same
@@ -38,13 +38,13 @@ same-equal [] (y ∷ ys) t = absurd t
 same-equal (x ∷ xs) [] t = absurd t
 same-equal (x ∷ xs) (y ∷ ys) t =
     let p = both (eqb x y) (same xs ys) t in
-    let e : x ≡ y = eqb→eq x y (p .0) in
-    let r : xs ≡ ys = same-equal xs ys (p .1) in
+    let e : x ≡ y = eqb→eq x y p.0 in
+    let r : xs ≡ ys = same-equal xs ys p.1 in
     cc
 
 pub same-self : (xs : List ℕ) → T (same xs xs)
 same-self [] = tt
-same-self (x ∷ xs) = and (eqb x x) (same xs xs) (eqb-refl x) (same-self xs)
+same-self (x ∷ xs) = and (eqb x x) (same xs xs) (eqb_refl x) (same-self xs)
   where
     and : (a b : Bool) → T a → T b → T (a && b)
     and true true s t = tt

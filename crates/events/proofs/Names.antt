@@ -1,19 +1,19 @@
 -- What the names are: none is empty, none is longer than nine bytes, and no two of letters below 32 are alike. Assumes nothing.
-use mathlib.Core.Path.{_≡_, refl, sym}
-use mathlib.Core.Bool.{Bool, not, _&&_}
-use mathlib.Core.List.{_++_}
-use Prim.Native.Nat.{ℕ, _<_, _≤_}
-use native.Mathlib.Decide.{decLt}
+use mathlib.Core.Path.{◌≡◌, refl, sym}
+use mathlib.Core.Bool.{Bool, not, ◌&&◌}
+use mathlib.Core.List.{◌++◌}
+use Prim.Native.Nat.{ℕ, ◌<◌, ◌≤◌}
+use native.Mathlib.Decide.{dec_lt}
 use native.Mathlib.Omega.{arith}
-use lib.Dec.{T, leb, leb→le, T-not}
-use lib.ListN.{length, List·getD-eq-default}
-use Rattle·text.specs.Text.{word, digits, decimal}
-use Rattle·events·specs.specs.Events.{names, eventName}
-use Rattle·events·proofs.proofs.Computed.{both, every, every-at, same, same-self}
+use lib.Dec.{T, leb, leb→le, T_not}
+use lib.ListN.{length, get_or-eq_default}
+use Rattle.text.specs.Text.{word, digits, decimal}
+use Rattle.events.specs.Events.{names, eventName}
+use Rattle.events.proofs.Computed.{both, every, every-at, same, same-self}
 
 pub name-high : (a : ℕ) → 12 ≤ a → eventName a ≡ word "E" ++ decimal a
 unfolding eventName names
-name-high a h = List·getD-eq-default names (word "E" ++ decimal a) h
+name-high a h = get_or-eq_default names (word "E" ++ decimal a) h
 
 -- a name has one to nine bytes
 fair : ℕ → Bool
@@ -28,10 +28,10 @@ unfolding fair
 name-fair a h = both (leb 1 (length (eventName a))) (leb (length (eventName a)) 9) (every-at fair 256 all-fair a h)
 
 pub name-some : (a : ℕ) → a < 256 → 0 < length (eventName a)
-name-some a h = leb→le 1 (length (eventName a)) (name-fair a h .0)
+name-some a h = leb→le 1 (length (eventName a)) (name-fair a h).0
 
 pub name-short : (a : ℕ) → a < 256 → length (eventName a) ≤ 9
-name-short a h = leb→le (length (eventName a)) 9 (name-fair a h .1)
+name-short a h = leb→le (length (eventName a)) 9 (name-fair a h).1
 
 -- CLOCKBACK
 pub name-longest : length (eventName 10) ≡ 9
@@ -49,14 +49,14 @@ all-apart = tt
 never-alike : (a b : ℕ) → a < 32 → b < a → eventName a ≡ eventName b → ⊥
 unfolding apart
 never-alike a b h l e =
-    T-not (same (eventName a) (eventName b)) (every-at (λ b. not (same (eventName a) (eventName b))) a (every-at apart 32 all-apart a h) b l)
+    T_not (same (eventName a) (eventName b)) (every-at (λ b. not (same (eventName a) (eventName b))) a (every-at apart 32 all-apart a h) b l)
     (rw (← e) (same-self (eventName a)))
 
 pub name-injective : (a b : ℕ) → a < 32 → b < 32 → eventName a ≡ eventName b → a ≡ b
 name-injective a b h k e =
-    elim (decLt b a) [
+    elim (dec_lt b a) [
       | yes l ↦ absurd (never-alike a b h l e)
-      | no m ↦ elim (decLt a b) [ yes l ↦ absurd (never-alike b a k l (sym e)) | no n ↦ omega arith ]
+      | no m ↦ elim (dec_lt a b) [ yes l ↦ absurd (never-alike b a k l (sym e)) | no n ↦ omega arith ]
     ]
 
 -- ---- as they look

@@ -2,10 +2,8 @@
 --   names              the twelve names, by letter
 --   eventName letter   one of the twelve, or E and the letter's number. A name has one to nine bytes (`name-some`, `name-short`, `name-longest`),
 --                      and letters below 32 have different names (`name-injective`)
-use mathlib.Core.List.{List, [], _∷_, _++_}
-use Prim.Native.Nat.{ℕ}
-use lib.ListN.{getD}
-use Rattle·text.specs.Text.{word, decimal}
+use Rattle.std.specs.Prelude.{List, [], ◌∷◌, ◌++◌, ℕ, get_or}
+use Rattle.text.specs.Text.{word, decimal}
 
 unfoldable pub names : List (List ℕ)
 names =
@@ -25,4 +23,4 @@ names =
 
 -- past the end of the twelve, E and the number
 unfoldable pub eventName : ℕ → List ℕ
-eventName letter = getD names letter (word "E" ++ decimal letter)
+eventName letter = get_or names letter (word "E" ++ decimal letter)

@@ -1,12 +1,11 @@
 // The event names: the scope's twelve in one table, and E with its number for every other letter.
-ghost use mathlib.Core.Path.{_≡_};
-ghost use Prim.Native.Nat.{_+_, _<_, _≤_};
-ghost use lib.ListN.{length};
-ghost use Rattle·events·specs.specs.Events.{eventName};
-ghost use Rattle·lent.specs.Lent.{Puts};
-use text::put_byte;
-use text::put_bytes;
-use text::put_decimal;
+#![tactic(auto)]
+
+ghost use Rattle.std.specs.Prelude.{◌≡◌, ◌+◌, ◌<◌, ◌≤◌, length};
+ghost use Rattle.events.specs.Events.{eventName};
+ghost use Rattle.lent.specs.Lent.{Put};
+
+use text::{put_byte, put_bytes, put_decimal};
 
 // Nine bytes for each letter, 0 to 11; LENGTHS says how many of them are the name.
 const NAMES: [u8; 108] = *b"\
@@ -26,18 +25,21 @@ const NAMES: [u8; 108] = *b"\
 
 const LENGTHS: [usize; 12] = [4, 6, 4, 6, 5, 4, 3, 4, 8, 6, 9, 7];
 
+// The letters below this have a row.
+const NAMED: u8 = 12;
+
 fn length_of(row: usize) -> usize
-    requires { ⌜ row < 12 ⌝ }
-    ensures { λ r. ⌜ r ≡ length (eventName row) ⌝ }
+    requires { row < 12 }
+    ensures { result ≡ length (eventName row) }
 {
     LENGTHS[row]
 }
 
 pub fn put_name(out: &mut [u8], at: usize, letter: u8) -> usize
-    requires { ⌜ at + length (eventName letter) ≤ length (now out) ⌝ }
-    ensures { λ r. ⌜ Puts out at (eventName letter) r ⌝ }
+    requires { at + length (eventName letter) ≤ length out.old }
+    ensures { Put out.old at (eventName letter) result out.new }
 {
-    if letter < 12 {
+    if letter < NAMED {
         let row = letter as usize;
         let table = NAMES;
         let start = row * 9;

@@ -1,21 +1,21 @@
 -- One answer to each offer. Assumes nothing.
-use mathlib.Core.Path.{_≡_, refl, ap}
+use mathlib.Core.Path.{◌≡◌, refl, ap}
 use mathlib.Core.List.{List}
-use Prim.Native.Nat.{ℕ, _<_}
+use Prim.Native.Nat.{ℕ, ◌<◌}
 use native.Mathlib.Omega.{arith}
-use native.Mathlib.Decide.{decLt}
-use Rattle·verdict.proofs.Ordered.{apart}
-use Rattle·pattern.specs.Pattern.{Pattern}
-use Rattle·evidence·specs.specs.Evidence.{Offer, HoldsAt, HoldBelow, ByPairs, Checked}
-use Rattle·evidence·specs.specs.Evidence.ByPairs.{all-hold, fails}
-use Rattle·evidence·specs.specs.Evidence.Checked.{refuses, not-started, started}
-use Rattle·evidence·specs.specs.declared.Answer.{Answer}
-use Rattle·evidence·specs.specs.declared.Answer.the-variants.{NotProved}
+use native.Mathlib.Decide.{dec_lt}
+use Rattle.verdict.proofs.Ordered.{apart}
+use Rattle.pattern.specs.Pattern.{Pattern}
+use Rattle.evidence.specs.Evidence.{Offer, HoldsAt, HoldBelow, ByPairs, Checked}
+use Rattle.evidence.specs.Evidence.ByPairs.{all-hold, fails}
+use Rattle.evidence.specs.Evidence.Checked.{refuses, not-started, started}
+use Rattle.evidence.specs.declared.Answer.{Answer}
+use Rattle.evidence.specs.declared.Answer.TheVariants.{NotProved}
 
 -- of two failing pairs below which all hold neither is the lower
 lowest : {P : Pattern} {lefts rights : List ℕ} {i j : ℕ} → HoldBelow P lefts rights i → (HoldsAt P lefts rights i → ⊥)
     → HoldBelow P lefts rights j → (HoldsAt P lefts rights j → ⊥) → i ≡ j
-lowest {P} {lefts} {rights} {i} {j} p f q g = pick (decLt i j) (decLt j i)
+lowest {P} {lefts} {rights} {i} {j} p f q g = pick (dec_lt i j) (dec_lt j i)
   where
     pick : Dec (i < j) → Dec (j < i) → i ≡ j
     pick (yes l) d = absurd (f (q i l))

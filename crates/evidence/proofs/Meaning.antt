@@ -2,21 +2,21 @@
 use mathlib.Core.List.{List}
 use Prim.Native.Nat.{ℕ}
 use lib.ListN.{length}
-use Rattle·pattern.specs.Pattern.{Pattern}
-use Rattle·pattern.specs.Language.{SameLanguage}
-use Rattle·congruence.specs.Congruence.{Listed}
-use Rattle·congruence.specs.Congruence.Congruent.{given}
-use Rattle·congruence.specs.Progress.{Progress}
-use Rattle·congruence.proofs.UpTo.{up-to-congruence}
-use Rattle·evidence·specs.specs.Evidence.{Offer, HoldBelow, Checked}
-use Rattle·evidence·specs.specs.Evidence.Checked.{started}
-use Rattle·evidence·specs.specs.Evidence.ByPairs.{all-hold}
-use Rattle·evidence·specs.specs.declared.Answer.the-variants.{Proved}
+use Rattle.pattern.specs.Pattern.{Pattern}
+use Rattle.pattern.specs.Language.{SameLanguage}
+use Rattle.congruence.specs.Congruence.{Listed}
+use Rattle.congruence.specs.Congruence.Congruent.{given}
+use Rattle.congruence.specs.Progress.{Progress}
+use Rattle.congruence.proofs.UpTo.{up-to-congruence}
+use Rattle.evidence.specs.Evidence.{Offer, HoldBelow, Checked}
+use Rattle.evidence.specs.Evidence.Checked.{started}
+use Rattle.evidence.specs.Evidence.ByPairs.{all-hold}
+use Rattle.evidence.specs.declared.Answer.TheVariants.{Proved}
 
 -- a list whose pairs all hold is a bisimulation up to congruence
 list-progress : {P : Pattern} {lefts rights : List ℕ} → HoldBelow P lefts rights (length lefts) → Progress P (Listed lefts rights)
-list-progress {P} {lefts} {rights} f = record { each = λ a b r. rw (← r .left, ← r .right) (f (r .at) (r .below)) }
+list-progress {P} {lefts} {rights} f = record { each = λ a b r. rw (← r.left, ← r.right) (f r.at r.below) }
 
 -- whoever wrote the list: PROVED, and the languages are equal
-pub evidence-means-same : {o : Offer} → Checked o Proved → SameLanguage (o .pattern) (o .x) (o .y)
+pub evidence-means-same : {o : Offer} → Checked o Proved → SameLanguage o.pattern o.x o.y
 evidence-means-same (started fine start (all-hold f)) = up-to-congruence (list-progress f) (given start)

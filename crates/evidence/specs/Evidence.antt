@@ -7,24 +7,18 @@
 --   ValidOffer   an offer that is not refused (`offer-valid`)
 --   Checked      what the check answers: one answer to each offer (`check-determined`)
 --   numberOf, placeOf   the scope's number of an answer, and the place returned with it; what they mean stands in specs/Meaning
-use mathlib.Core.Path.{_≡_}
-use mathlib.Core.Bool.{_&&_}
-use mathlib.Core.List.{List, [], _∷_}
-use Prim.Native.Nat.{ℕ, _≤_, _<_}
-use lib.ListN.{length, getD}
-use lib.Dec.{leb, eqb}
-use Rattle·verdict.specs.declared.Verdict.{Verdict}
-use Rattle·verdict.specs.declared.Verdict.the-variants.{Fine, Against}
-use Rattle·verdict.specs.Tests.{need, inOrder, each}
-use Rattle·lent.specs.Lent.{Slice, before}
-use Rattle·sets.specs.Sets.{Good}
-use Rattle·sets.specs.Rooms.{maxRoom}
-use Rattle·pattern.specs.Pattern.{Pattern, patternOf, AllGood, Valid}
-use Rattle·pattern.specs.Tests.{shapeTest, masksTest, setTest}
-use Rattle·congruence.specs.Congruence.{Listed}
-use Rattle·congruence.specs.Progress.{Progresses}
-use Rattle·evidence·specs.specs.declared.Answer.{Answer}
-use Rattle·evidence·specs.specs.declared.Answer.the-variants.{Proved, NotProved, Refused}
+use Rattle.std.specs.Prelude.{◌≡◌, ◌&&◌, List, [], ◌∷◌, ℕ, ◌≤◌, ◌<◌, length, get_or, leb, eqb}
+use Rattle.verdict.specs.declared.Verdict.{Verdict}
+use Rattle.verdict.specs.declared.Verdict.TheVariants.{Fine, Against}
+use Rattle.verdict.specs.Tests.{need, inOrder, each}
+use Rattle.sets.specs.Sets.{Good}
+use Rattle.sets.specs.Rooms.{maxRoom}
+use Rattle.pattern.specs.Pattern.{Pattern, patternOf, AllGood, Valid}
+use Rattle.pattern.specs.Tests.{shapeTest, masksTest, setTest}
+use Rattle.congruence.specs.Congruence.{Listed}
+use Rattle.congruence.specs.Progress.{Progresses}
+use Rattle.evidence.specs.declared.Answer.{Answer}
+use Rattle.evidence.specs.declared.Answer.TheVariants.{Proved, NotProved, Refused}
 
 pub record Offer : Type 0 where
   pub pattern : Pattern
@@ -36,10 +30,6 @@ pub record Offer : Type 0 where
 abbrev pub offerOf : ℕ → ℕ → ℕ → List ℕ → ℕ → ℕ → List ℕ → List ℕ → Offer
 offerOf n k finals rows x y lefts rights = record { pattern = patternOf n k finals rows; x = x; y = y; lefts = lefts; rights = rights }
 
--- the offer of a call that is lent its rows and the two sides
-abbrev pub offerIn : ℕ → ℕ → ℕ → Slice → ℕ → ℕ → Slice → Slice → Offer
-offerIn n k finals rows x y lefts rights = offerOf n k finals (before rows) x y (before lefts) (before rights)
-
 -- ---- the pairs
 
 abbrev pub Starts : List ℕ → List ℕ → ℕ → ℕ → Type 0
@@ -49,7 +39,7 @@ abbrev pub Holds : Pattern → List ℕ → List ℕ → ℕ → ℕ → Type 0
 Holds P lefts rights a b = Progresses P (Listed lefts rights) a b
 
 abbrev pub HoldsAt : Pattern → List ℕ → List ℕ → ℕ → Type 0
-HoldsAt P lefts rights i = Holds P lefts rights (getD lefts i 0) (getD rights i 0)
+HoldsAt P lefts rights i = Holds P lefts rights (get_or lefts i 0) (get_or rights i 0)
 
 abbrev pub HoldBelow : Pattern → List ℕ → List ℕ → ℕ → Type 0
 HoldBelow P lefts rights i = (j : ℕ) → j < i → HoldsAt P lefts rights j
@@ -67,20 +57,20 @@ pairsTest n x y lefts rights = inOrder (setTest n x ∷ setTest n y ∷ each (se
 unfoldable pub checkTest : Offer → Verdict
 checkTest o =
     inOrder
-    (shapeTest (o .pattern)
-    ∷ listTest (length (o .lefts)) (length (o .rights))
-    ∷ masksTest (o .pattern)
-    ∷ pairsTest (o .pattern .states) (o .x) (o .y) (o .lefts) (o .rights)
+    (shapeTest o.pattern
+    ∷ listTest (length o.lefts) (length o.rights)
+    ∷ masksTest o.pattern
+    ∷ pairsTest o.pattern.states o.x o.y o.lefts o.rights
     ∷ [])
 
 pub record ValidOffer (o : Offer) : Type 0 where
-  pub pattern : Valid (o .pattern)
-  pub pairs-fit : length (o .lefts) ≤ maxRoom
-  pub sides-match : length (o .lefts) ≡ length (o .rights)
-  pub x-good : Good (o .pattern .states) (o .x)
-  pub y-good : Good (o .pattern .states) (o .y)
-  pub lefts-good : AllGood (o .pattern .states) (o .lefts)
-  pub rights-good : AllGood (o .pattern .states) (o .rights)
+  pub pattern : Valid o.pattern
+  pub pairs-fit : length o.lefts ≤ maxRoom
+  pub sides-match : length o.lefts ≡ length o.rights
+  pub x-good : Good o.pattern.states o.x
+  pub y-good : Good o.pattern.states o.y
+  pub lefts-good : AllGood o.pattern.states o.lefts
+  pub rights-good : AllGood o.pattern.states o.rights
 
 -- ---- the answer
 
@@ -92,8 +82,8 @@ pub data ByPairs (P : Pattern) (lefts rights : List ℕ) : Answer → Type 0 whe
 -- the starting pair is looked at first: where it is not in order, the place is the number of pairs, whatever the pairs do
 pub data Checked (o : Offer) : Answer → Type 0 where
   refuses : {w : ℕ} → checkTest o ≡ Against w → Checked o (Refused w)
-  not-started : checkTest o ≡ Fine → (Starts (o .lefts) (o .rights) (o .x) (o .y) → ⊥) → Checked o (NotProved (length (o .lefts)))
-  started : {r : Answer} → checkTest o ≡ Fine → Starts (o .lefts) (o .rights) (o .x) (o .y) → ByPairs (o .pattern) (o .lefts) (o .rights) r → Checked o r
+  not-started : checkTest o ≡ Fine → (Starts o.lefts o.rights o.x o.y → ⊥) → Checked o (NotProved (length o.lefts))
+  started : {r : Answer} → checkTest o ≡ Fine → Starts o.lefts o.rights o.x o.y → ByPairs o.pattern o.lefts o.rights r → Checked o r
 
 -- 5 PROVED, 6 NOT-PROVED, or the refusal
 abbrev pub numberOf : Answer → ℕ

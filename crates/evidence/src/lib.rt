@@ -1,16 +1,17 @@
 // Evidence: the check of a list of pairs that somebody else offers.
-ghost use mathlib.Core.Path.{_≡_};
-ghost use Prim.Native.Nat.{_*_, _≤_};
-ghost use lib.ListN.{length};
-ghost use Rattle·lent.specs.Lent.{before};
-ghost use Rattle·verdict.specs.Tests.{Decides};
-ghost use Rattle·pattern.specs.Pattern.{patternIn};
-ghost use Rattle·evidence·specs.specs.Evidence.{offerIn, Starts, Holds, ByPairs, Checked};
-ghost use Rattle·evidence·specs.specs.Evidence.{listTest, pairsTest, checkTest};
+#![tactic(auto)]
+
+ghost use Rattle.std.specs.Prelude.{◌≡◌, ◌*◌, ◌≤◌, length};
+ghost use Rattle.verdict.specs.Tests.{Decides};
+ghost use Rattle.pattern.specs.Pattern.{patternOf};
+ghost use Rattle.evidence.specs.Evidence.{offerOf, Starts, Holds, ByPairs, Checked};
+ghost use Rattle.evidence.specs.Evidence.{listTest, pairsTest, checkTest};
+
 use sets::States;
 use verdict::Verdict;
 
 // What the check of an offer answers; NOT-PROVED has its place.
+#[derive(Drop)]
 pub enum Answer {
     Proved,
     NotProved(usize),
@@ -18,8 +19,9 @@ pub enum Answer {
 }
 
 // BAD-LIST: a list has at most as many pairs as the largest room.
+#[tactic(auto, unfolding(crate::specs::Evidence::listTest, verdict::specs::Tests::need))]
 fn list_test(lefts: usize, rights: usize) -> Verdict
-    ensures { λ r. ⌜ r ≡ listTest lefts rights ⌝ }
+    ensures { result ≡ listTest lefts rights }
 {
     if lefts > States::MAX_ROOM {
         return Verdict::Against(16);
@@ -29,7 +31,7 @@ fn list_test(lefts: usize, rights: usize) -> Verdict
 
 // BAD-SET: the starting pair and all listed ones.
 fn pairs_test(states: usize, x: u64, y: u64, lefts: &[u64], rights: &[u64]) -> Verdict
-    ensures { λ r. ⌜ r ≡ pairsTest states x y (before lefts) (before rights) ⌝ }
+    ensures { result ≡ pairsTest states x y lefts.now rights.now }
 {
     let first = pattern::set_test(states, x);
     let Verdict::Fine = first else {
@@ -57,7 +59,7 @@ fn check_test(
     lefts: &[u64],
     rights: &[u64],
 ) -> Verdict
-    ensures { λ r. ⌜ r ≡ checkTest (offerIn states letters finals rows x y lefts rights) ⌝ }
+    ensures { result ≡ checkTest (offerOf states letters finals rows.now x y lefts.now rights.now) }
 {
     let shape = pattern::shape_test(states, letters, rows);
     let Verdict::Fine = shape else {
@@ -76,8 +78,8 @@ fn check_test(
 
 // Whether (x, y) itself is a listed pair, in that order.
 fn starts(lefts: &[u64], rights: &[u64], x: u64, y: u64) -> bool
-    requires { ⌜ length (now lefts) ≡ length (now rights) ⌝ }
-    ensures { λ r. ⌜ Decides (Starts (before lefts) (before rights) x y) r ⌝ }
+    requires { length lefts.now ≡ length rights.now }
+    ensures { Decides (Starts lefts.now rights.now x y) result }
 {
     let mut i = 0;
     while i < lefts.len() {
@@ -100,10 +102,10 @@ fn holds(
     a: u64,
     b: u64,
 ) -> bool
-    requires { ⌜ states ≤ 64 ⌝ }
-    requires { ⌜ length (now rows) ≡ states * letters ⌝ }
-    requires { ⌜ length (now lefts) ≡ length (now rights) ⌝ }
-    ensures { λ r. ⌜ Decides (Holds (patternIn states letters finals rows) (before lefts) (before rights) a b) r ⌝ }
+    requires states_bound { states ≤ 64 }
+    requires rows_len { length rows.now ≡ states * letters }
+    requires lefts_len { length lefts.now ≡ length rights.now }
+    ensures { Decides (Holds (patternOf states letters finals rows.now) lefts.now rights.now a b) result }
 {
     if sets::meets(a, finals) != sets::meets(b, finals) {
         return false;
@@ -129,10 +131,10 @@ fn by_pairs(
     lefts: &[u64],
     rights: &[u64],
 ) -> Answer
-    requires { ⌜ states ≤ 64 ⌝ }
-    requires { ⌜ length (now rows) ≡ states * letters ⌝ }
-    requires { ⌜ length (now lefts) ≡ length (now rights) ⌝ }
-    ensures { λ r. ⌜ ByPairs (patternIn states letters finals rows) (before lefts) (before rights) r ⌝ }
+    requires states_bound { states ≤ 64 }
+    requires rows_len { length rows.now ≡ states * letters }
+    requires lefts_len { length lefts.now ≡ length rights.now }
+    ensures { ByPairs (patternOf states letters finals rows.now) lefts.now rights.now result }
 {
     let mut place = 0;
     while place < lefts.len() {
@@ -157,7 +159,7 @@ pub fn check(
     lefts: &[u64],
     rights: &[u64],
 ) -> Answer
-    ensures { λ r. ⌜ Checked (offerIn states letters finals rows x y lefts rights) r ⌝ }
+    ensures { Checked (offerOf states letters finals rows.now x y lefts.now rights.now) result }
 {
     let test = check_test(states, letters, finals, rows, x, y, lefts, rights);
     if let Verdict::Against(number) = test {

@@ -1,12 +1,12 @@
 -- Values laid over a list: what is found then, what is as it was, and one value more. Assumes nothing.
-use mathlib.Core.Path.{_≡_, refl, sym, ap, _∙_}
-use mathlib.Core.List.{List, [], _∷_, _++_, append-assoc}
-use Prim.Native.Nat.{ℕ, suc, _+_, _≤_, _<_}
+use mathlib.Core.Path.{◌≡◌, refl, sym, ap, ◌∙◌}
+use mathlib.Core.List.{List, [], ◌∷◌, ◌++◌, append_assoc}
+use Prim.Native.Nat.{ℕ, suc, ◌+◌, ◌≤◌, ◌<◌}
 use native.Mathlib.Numerals.{add-one}
 use native.Mathlib.Omega.{arith}
-use lib.ListN.{length, getD, take, drop, set, length-append, length-drop, List·getD-append}
-use lib.Seq.{set-at, drop-cons, take-append-le, take-at, drop-at, drop-drop}
-use Rattle·lent·specs.specs.Lent.{lay, layAt}
+use lib.ListN.{length, get_or, take, drop, set, length-append, length-drop, get_or-append}
+use lib.Seq.{set_at, drop-cons, take-append-le, take_at, drop_at, drop-drop}
+use Rattle.lent.specs.Lent.{lay, layAt}
 
 module _ {A : Type 0} where
   pub lay-none : (old : List A) → lay [] old ≡ old
@@ -21,27 +21,27 @@ module _ {A : Type 0} where
   -- the first places hold the values
   pub take-lay : (values old : List A) (n : ℕ) → length values ≡ n → take n (lay values old) ≡ values
   unfolding lay
-  take-lay values old n e = take-at values _ n e
+  take-lay values old n e = take_at values _ n e
 
   pub take-lay-less : (values old : List A) (n : ℕ) → n ≤ length values → take n (lay values old) ≡ take n values
   unfolding lay
   take-lay-less values old n h = take-append-le n values _ h
 
-  pub getD-lay : (values old : List A) (d : A) (i : ℕ) → i < length values → getD (lay values old) i d ≡ getD values i d
+  pub getD-lay : (values old : List A) (d : A) (i : ℕ) → i < length values → get_or (lay values old) i d ≡ get_or values i d
   unfolding lay
-  getD-lay values old d i h = List·getD-append values _ d i h
+  getD-lay values old d i h = get_or-append values _ d i h
 
   -- the rest is as it was
   pub drop-lay : (values old : List A) (n : ℕ) → length values ≡ n → drop n (lay values old) ≡ drop n old
   unfolding lay
-  drop-lay values old n e = drop-at values _ n e ∙ ap (λ (m : ℕ). drop m old) e
+  drop-lay values old n e = drop_at values _ n e ∙ ap (λ (m : ℕ). drop m old) e
 
   -- one more value is laid by a store at the next place
   pub lay-more : (values old : List A) (n : ℕ) (v d : A) → length values ≡ n → n < length old → set (lay values old) n v ≡ lay (values ++ (v ∷ [])) old
   unfolding lay
   lay-more values old n v d e l =
       let next : length (values ++ (v ∷ [])) ≡ suc n = length-append values (v ∷ []) ∙ ap (λ (m : ℕ). m + 1) e ∙ add-one n in
-      rw (e, next, drop-cons old n d l) (set-at values (getD old n d) (drop (suc n) old) v n e ∙ sym (append-assoc values (v ∷ []) (drop (suc n) old)))
+      rw (e, next, drop-cons old n d l) (set_at values (get_or old n d) (drop (suc n) old) v n e ∙ sym (append_assoc values (v ∷ []) (drop (suc n) old)))
 
   -- ---- from a place on
 
@@ -53,4 +53,4 @@ module _ {A : Type 0} where
   pub lay-at-parts : (at : ℕ) (values old : List A) → layAt at values old ≡ take at old ++ values ++ drop (at + length values) old
   unfolding layAt lay
   lay-at-parts at values old =
-      ap (λ (l : List A). take at old ++ (values ++ l)) (drop-drop (length values) at old) ∙ sym (append-assoc (take at old) values (drop (at + length values) old))
+      ap (λ (l : List A). take at old ++ (values ++ l)) (drop-drop (length values) at old) ∙ sym (append_assoc (take at old) values (drop (at + length values) old))

@@ -1,10 +1,10 @@
 -- The scope's examples of numbers, computed by the definitions.
-use Prim.Native.Nat.{_-_, _^_}
-use mathlib.Core.List.{[], _∷_}
-use mathlib.Core.Path.{_≡_, refl}
-use Rattle·verdict.specs.Tests.{need, inOrder}
-use Rattle·numbers·specs.specs.declared.Number.the-variants.{Value, Fault}
-use Rattle·numbers·specs.specs.Numbers.{encodeIn, encode, byteTest, groups, numberAt}
+use Prim.Native.Nat.{◌-◌, ◌^◌}
+use mathlib.Core.List.{[], ◌∷◌}
+use mathlib.Core.Path.{◌≡◌, refl}
+use Rattle.verdict.specs.Tests.{need, inOrder}
+use Rattle.numbers.specs.declared.Number.TheVariants.{Value, Fault}
+use Rattle.numbers.specs.Numbers.{encodeIn, encode, byteTest, groups, numberAt}
 
 -- 300 is AC 02
 pub three-hundred : encode 300 ≡ 0xac ∷ 0x02 ∷ []

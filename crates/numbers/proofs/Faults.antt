@@ -1,18 +1,18 @@
 -- One law for each fault of a number: where reading finds it, and nowhere else.
-use Prim.Native.Nat.{ℕ, zero, suc, _+_, _-_, _<_, _≤_}
-use mathlib.Core.List.{List, [], _∷_}
-use mathlib.Core.Logic.{_↔_, _⊎_, inl, inr}
-use mathlib.Core.Path.{_≡_, refl, sym, ap, _∙_}
-use native.Mathlib.Decide.{ℕ-discrete}
+use Prim.Native.Nat.{ℕ, zero, suc, ◌+◌, ◌-◌, ◌<◌, ◌≤◌}
+use mathlib.Core.List.{List, [], ◌∷◌}
+use mathlib.Core.Logic.{◌↔◌, ◌⊎◌, inl, inr}
+use mathlib.Core.Path.{◌≡◌, refl, sym, ap, ◌∙◌}
+use native.Mathlib.Decide.{ℕ_discrete}
 use native.Mathlib.Omega.{arith}
-use lib.ListN.{length, drop, getD}
-use Rattle·verdict.specs.declared.Verdict.the-variants.{Fine, Against}
-use Rattle·verdict.proofs.Ordered.{apart}
-use Rattle·numbers·specs.specs.declared.Number.the-variants.{Fault}
-use Rattle·numbers·specs.specs.Numbers.{byteTest, Form, whole, faulty, more, groups, placed, numberAt}
-use Rattle·numbers·specs.specs.Faults.{EndsEarly, BadByte, needless, tenth, BadlyWritten}
-use Rattle·numbers·proofs.proofs.Groups.{faulty-whole, fine-when, against-zero, against-tenth, groups-none, groups-bad, groups-more, groups-cases}
-use Rattle·numbers·proofs.proofs.RoundTrip.{fault-value}
+use lib.ListN.{length, drop, get_or}
+use Rattle.verdict.specs.declared.Verdict.TheVariants.{Fine, Against}
+use Rattle.verdict.proofs.Ordered.{apart}
+use Rattle.numbers.specs.declared.Number.TheVariants.{Fault}
+use Rattle.numbers.specs.Numbers.{byteTest, Form, whole, faulty, more, groups, placed, numberAt}
+use Rattle.numbers.specs.Faults.{EndsEarly, BadByte, needless, tenth, BadlyWritten}
+use Rattle.numbers.proofs.Groups.{faulty-whole, fine-when, against-zero, against-tenth, groups-none, groups-bad, groups-more, groups-cases}
+use Rattle.numbers.proofs.RoundTrip.{fault-value}
 
 -- ---- one byte
 
@@ -28,7 +28,7 @@ record Spoken (i b w : ℕ) : Type 0 where
   bad : BadByte i b
 
 against-bad : (i b : ℕ) {w : ℕ} → i ≤ 9 → byteTest i b ≡ Against w → Spoken i b w
-against-bad i b {w} n h = go (ℕ-discrete b 0) (ℕ-discrete i 0) (ℕ-discrete b 1) (ℕ-discrete i 9)
+against-bad i b {w} n h = go (ℕ_discrete b 0) (ℕ_discrete i 0) (ℕ_discrete b 1) (ℕ_discrete i 9)
   where
     spoken : BadByte i b → Spoken i b w
     spoken p = let e : Against 21 ≡ Against w = sym (bad-against p) ∙ h in record { number = let z : w ≡ 21 = cc in z; bad = p }
@@ -49,14 +49,14 @@ ends-none : (i : ℕ) → i ≤ 9 → EndsEarly i []
 ends-none i h = record { few = omega arith; go-on = λ j l. absurd (omega arith) }
 
 ends-more : (i b : ℕ) (bs : List ℕ) → 128 ≤ b → EndsEarly (suc i) bs → EndsEarly i (b ∷ bs)
-ends-more i b bs l h = record { few = omega (arith, h .few); go-on = on }
+ends-more i b bs l h = record { few = omega (arith, h.few); go-on = on }
   where
-    on : (j : ℕ) → j < length (b ∷ bs) → 128 ≤ getD (b ∷ bs) j 0
+    on : (j : ℕ) → j < length (b ∷ bs) → 128 ≤ get_or (b ∷ bs) j 0
     on zero k = l
-    on (suc j) k = h .go-on j (omega arith)
+    on (suc j) k = h.go-on j (omega arith)
 
 ends-rest : (i b : ℕ) (bs : List ℕ) → EndsEarly i (b ∷ bs) → EndsEarly (suc i) bs
-ends-rest i b bs h = record { few = omega (arith, h .few); go-on = λ j l. h .go-on (suc j) (omega arith) }
+ends-rest i b bs h = record { few = omega (arith, h.few); go-on = λ j l. h.go-on (suc j) (omega arith) }
 
 more-faulty : (g : ℕ) (f : Form) {w : ℕ} → more g f ≡ faulty w → f ≡ faulty w
 more-faulty g (whole v n) h = absurd (faulty-whole (sym h))
@@ -65,14 +65,14 @@ more-faulty g (faulty w) h = h
 cut-when : (i : ℕ) (bs : List ℕ) → EndsEarly i bs → groups i bs ≡ faulty 20
 cut-when i [] h = groups-none i
 cut-when i (b ∷ bs) h =
-    let l : 128 ≤ b = h .go-on 0 (omega arith) in
-    groups-more i b bs (goes-fine i b (omega (arith, h .few)) l) l ∙ ap (more (b - 128)) (cut-when (suc i) bs (ends-rest i b bs h))
+    let l : 128 ≤ b = h.go-on 0 (omega arith) in
+    groups-more i b bs (goes-fine i b (omega (arith, h.few)) l) l ∙ ap (more (b - 128)) (cut-when (suc i) bs (ends-rest i b bs h))
 
 cut-means : (i : ℕ) (bs : List ℕ) → i ≤ 9 → groups i bs ≡ faulty 20 → EndsEarly i bs
 cut-means i [] h e = ends-none i h
 cut-means i (b ∷ bs) h e =
     groups-cases i b bs (λ f. f ≡ faulty 20 → EndsEarly i (b ∷ bs))
-    (λ w a q. absurd (let n : w ≡ 20 = cc in let s : Spoken i b w = against-bad i b h a in omega (arith, s .number)))
+    (λ w a q. absurd (let n : w ≡ 20 = cc in let s : Spoken i b w = against-bad i b h a in omega (arith, s.number)))
     (λ a l q. absurd (faulty-whole (sym q)))
     (λ a l k q. ends-more i b bs l (cut-means (suc i) bs (omega arith) (more-faulty (b - 128) (groups (suc i) bs) q)))
     e
@@ -86,14 +86,14 @@ badly-here i b bs n h =
 
 badly-later : (i b : ℕ) (bs : List ℕ) → 128 ≤ b → BadlyWritten (suc i) bs → BadlyWritten i (b ∷ bs)
 badly-later i b bs l h =
-    let e : i + suc (h .j) ≡ suc i + h .j = omega arith in
-    record { j = suc (h .j); there = omega (arith, h .there); among = omega (arith, h .among); go-on = on; bad = rw e (h .bad) }
+    let e : i + suc h.j ≡ suc i + h.j = omega arith in
+    record { j = suc h.j; there = omega (arith, h.there); among = omega (arith, h.among); go-on = on; bad = rw e h.bad }
   where
-    on : (m : ℕ) → m < suc (h .j) → 128 ≤ getD (b ∷ bs) m 0
+    on : (m : ℕ) → m < suc h.j → 128 ≤ get_or (b ∷ bs) m 0
     on zero k = l
-    on (suc m) k = h .go-on m (omega arith)
+    on (suc m) k = h.go-on m (omega arith)
 
-long-at : (i : ℕ) (bs : List ℕ) (j : ℕ) → j < length bs → ((m : ℕ) → m < j → 128 ≤ getD bs m 0) → BadByte (i + j) (getD bs j 0) → i + j ≤ 9 → groups i bs ≡ faulty 21
+long-at : (i : ℕ) (bs : List ℕ) (j : ℕ) → j < length bs → ((m : ℕ) → m < j → 128 ≤ get_or bs m 0) → BadByte (i + j) (get_or bs j 0) → i + j ≤ 9 → groups i bs ≡ faulty 21
 long-at i [] j l on bad n = absurd (omega arith)
 long-at i (b ∷ bs) zero l on bad n =
     let e : i + 0 ≡ i = omega arith in
@@ -105,10 +105,10 @@ long-at i (b ∷ bs) (suc j) l on bad n =
     ∙ ap (more (b - 128)) (long-at (suc i) bs j (omega arith) (λ m q. on (suc m) (omega arith)) (rw e at bad) (omega arith))
 
 long-means : (i : ℕ) (bs : List ℕ) → i ≤ 9 → groups i bs ≡ faulty 21 → BadlyWritten i bs
-long-means i [] h e = let z : faulty 20 ≡ faulty 21 = sym (groups-none i) ∙ e in let y : _≡_ {A = ℕ} 20 21 = cc in absurd (omega arith)
+long-means i [] h e = let z : faulty 20 ≡ faulty 21 = sym (groups-none i) ∙ e in let y : ◌≡◌ {A = ℕ} 20 21 = cc in absurd (omega arith)
 long-means i (b ∷ bs) h e =
     groups-cases i b bs (λ f. f ≡ faulty 21 → BadlyWritten i (b ∷ bs))
-    (λ w a q. badly-here i b bs h (against-bad i b h a .bad))
+    (λ w a q. badly-here i b bs h (against-bad i b h a).bad)
     (λ a l q. absurd (faulty-whole (sym q)))
     (λ a l k q. badly-later i b bs l (long-means (suc i) bs (omega arith) (more-faulty (b - 128) (groups (suc i) bs) q)))
     e
@@ -119,7 +119,7 @@ other-none : (i : ℕ) (bs : List ℕ) (w : ℕ) → i ≤ 9 → groups i bs ≡
 other-none i [] w h e = let z : faulty 20 ≡ faulty w = sym (groups-none i) ∙ e in inl (let y : w ≡ 20 = cc in y)
 other-none i (b ∷ bs) w h e =
     groups-cases i b bs (λ f. f ≡ faulty w → (w ≡ 20) ⊎ (w ≡ 21))
-    (λ v a q. let y : w ≡ v = cc in inr (y ∙ against-bad i b h a .number))
+    (λ v a q. let y : w ≡ v = cc in inr (y ∙ (against-bad i b h a).number))
     (λ a l q. absurd (faulty-whole (sym q)))
     (λ a l k q. other-none (suc i) bs w (omega arith) (more-faulty (b - 128) (groups (suc i) bs) q))
     e
@@ -135,14 +135,14 @@ module _ (s : List ℕ) (at : ℕ) where
   pub cut-exactly : numberAt s at ≡ Fault 20 at ↔ EndsEarly 0 (drop at s)
   unfolding numberAt
   cut-exactly =
-      (λ h. cut-means 0 (drop at s) (omega arith) (placed-fault at (groups 0 (drop at s)) h .0), λ h. ap (placed at) (cut-when 0 (drop at s) h))
+      (λ h. cut-means 0 (drop at s) (omega arith) (placed-fault at (groups 0 (drop at s)) h).0, λ h. ap (placed at) (cut-when 0 (drop at s) h))
 
   -- a last group of 0 after another, and a tenth byte other than 01, are LONG
   pub long-exactly : numberAt s at ≡ Fault 21 at ↔ BadlyWritten 0 (drop at s)
   unfolding numberAt
   long-exactly = (
-    λ h. long-means 0 (drop at s) (omega arith) (placed-fault at (groups 0 (drop at s)) h .0),
-    λ h. ap (placed at) (long-at 0 (drop at s) (h .j) (h .there) (h .go-on) (h .bad) (omega (arith, h .among))),
+    λ h. long-means 0 (drop at s) (omega arith) (placed-fault at (groups 0 (drop at s)) h).0,
+    λ h. ap (placed at) (long-at 0 (drop at s) h.j h.there h.go-on h.bad (omega (arith, h.among))),
   )
 
   -- there is no other fault, and the place is the first byte of the number
@@ -150,4 +150,4 @@ module _ (s : List ℕ) (at : ℕ) where
   unfolding numberAt
   fault-is {w} h =
       let q = placed-fault at (groups 0 (drop at s)) h in
-      (other-none 0 (drop at s) w (omega arith) (q .0), q .1)
+      (other-none 0 (drop at s) w (omega arith) q.0, q.1)

@@ -1,21 +1,21 @@
 -- The law of files, for every format: a file is accepted exactly where it is the bytes of numbers that fit.
-use Prim.Native.Nat.{ℕ, _+_, _≤_}
+use Prim.Native.Nat.{ℕ, ◌+◌, ◌≤◌}
 use mathlib.Core.Bool.{false}
-use mathlib.Core.List.{List, [], _∷_, _++_, append-assoc, append-nil}
-use mathlib.Core.Path.{_≡_, refl, sym, ap, _∙_}
-use native.Mathlib.Decide.{decLt}
+use mathlib.Core.List.{List, [], ◌∷◌, ◌++◌, append_assoc, append-nil}
+use mathlib.Core.Path.{◌≡◌, refl, sym, ap, ◌∙◌}
+use native.Mathlib.Decide.{dec_lt}
 use native.Mathlib.Omega.{arith}
 use lib.Dec.{ltb}
-use lib.ListN.{length, drop, length-append, drop-of-length-le}
-use lib.Seq.{drop-append-seam, drop-drop}
+use lib.ListN.{length, drop, length-append, drop_of_length-le}
+use lib.Seq.{drop-append_seam, drop-drop}
 use borrow.Author.Tests.{lt-ltb, le-ltb}
-use Rattle·verdict.specs.declared.Verdict.{Verdict}
-use Rattle·verdict.specs.declared.Verdict.the-variants.{Fine, Against}
-use Rattle·numbers·specs.specs.declared.Number.{Number}
-use Rattle·numbers·specs.specs.declared.Number.the-variants.{Value, Fault}
-use Rattle·numbers·specs.specs.Numbers.{encode, numberAt, AreBytes}
-use Rattle·numbers·specs.specs.Format.{Format, ended, item, gate, Reading, got, refused, ruled, heldTo, orRefused, unlessRefused, before, reading, noTail, fileReading, encodeAll, Fits}
-use Rattle·numbers·proofs.proofs.RoundTrip.{Found, read-after-write, write-after-read, fault-value}
+use Rattle.verdict.specs.declared.Verdict.{Verdict}
+use Rattle.verdict.specs.declared.Verdict.TheVariants.{Fine, Against}
+use Rattle.numbers.specs.declared.Number.{Number}
+use Rattle.numbers.specs.declared.Number.TheVariants.{Value, Fault}
+use Rattle.numbers.specs.Numbers.{encode, numberAt, AreBytes}
+use Rattle.numbers.specs.Format.{Format, ended, item, gate, Reading, got, refused, ruled, heldTo, orRefused, unlessRefused, before, reading, noTail, fileReading, encodeAll, Fits}
+use Rattle.numbers.proofs.RoundTrip.{Found, read-after-write, write-after-read, fault-value}
 
 -- ---- a number held to a test
 
@@ -35,18 +35,20 @@ held test at (Value x to) {v} {next} h = go (test x) refl h
 -- ---- reading what was written
 
 pub behind : (s : List ℕ) (at : ℕ) (a t : List ℕ) → drop at s ≡ a ++ t → drop (at + length a) s ≡ t
-behind s at a t e = sym (drop-drop (length a) at s) ∙ ap (drop (length a)) e ∙ drop-append-seam a t
+behind s at a t e = sym (drop-drop (length a) at s) ∙ ap (drop (length a)) e ∙ drop-append_seam a t
 
 pub reading-after-write : (f : Format) (vs s : List ℕ) (at : ℕ) (t : List ℕ) → drop at s ≡ encodeAll vs ++ t → Fits f vs → reading f s at ≡ got vs (at + length (encodeAll vs))
 unfolding Fits encodeAll reading
 reading-after-write ended [] s at t e h = ap (got []) (omega arith)
+reading-after-write ended (v ∷ vs) s at t e h = elim h [ ]
+reading-after-write (item test rest) [] s at t e h = elim h [ ]
 reading-after-write (item test rest) (v ∷ vs) s at t e h =
-    let d : drop at s ≡ encode v ++ (encodeAll vs ++ t) = e ∙ append-assoc (encode v) (encodeAll vs) t in
+    let d : drop at s ≡ encode v ++ (encodeAll vs ++ t) = e ∙ append_assoc (encode v) (encodeAll vs) t in
     let n : at + length (encode v) + length (encodeAll vs) ≡ at + length (encode v ++ encodeAll vs) = omega (arith, length-append (encode v) (encodeAll vs)) in
-    simp (read-after-write s at v (encodeAll vs ++ t) (h .0) d, h .1)
-    (ap (before v) (reading-after-write (rest v) vs s (at + length (encode v)) t (behind s at (encode v) (encodeAll vs ++ t) d) (h .2))
+    simp (read-after-write s at v (encodeAll vs ++ t) h.0 d, h.1)
+    (ap (before v) (reading-after-write (rest v) vs s (at + length (encode v)) t (behind s at (encode v) (encodeAll vs ++ t) d) h.2)
     ∙ ap (got (v ∷ vs)) n)
-reading-after-write (gate verdict rest) vs s at t e h = rw (h .0) (reading-after-write rest vs s at t e (h .1))
+reading-after-write (gate verdict rest) vs s at t e h = rw h.0 (reading-after-write rest vs s at t e h.1)
 
 -- ---- what was read is what was written
 
@@ -56,7 +58,7 @@ pub record ReadAs (f : Format) (vs s : List ℕ) (at next : ℕ) : Type 0 where
   pub after : next ≡ at + length (encodeAll vs)
 
 pub refused-got : {w p : ℕ} {vs : List ℕ} {n : ℕ} → refused w p ≡ got vs n → ⊥
-refused-got h = let z : _≡_ {A = ℕ} 0 1 = cc in omega arith
+refused-got h = let z : ◌≡◌ {A = ℕ} 0 1 = cc in omega arith
 
 read-ended : (s : List ℕ) (at : ℕ) (us : List ℕ) (end : ℕ) → got [] at ≡ got us end → ReadAs ended us s at end
 unfolding Fits encodeAll
@@ -70,9 +72,9 @@ joined : (test : ℕ → Verdict) (rest : ℕ → Format) (s : List ℕ) (at v n
 unfolding Fits encodeAll
 joined test rest s at v next vs to f g r =
     record {
-      fits = (f .small, g, r .fits);
-      bytes = f .bytes ∙ ap (λ (l : List ℕ). encode v ++ l) (r .bytes) ∙ sym (append-assoc (encode v) (encodeAll vs) (drop to s));
-      after = omega (arith, f .after, r .after, length-append (encode v) (encodeAll vs));
+      fits = (f.small, g, r.fits);
+      bytes = f.bytes ∙ ap (λ (l : List ℕ). encode v ++ l) r.bytes ∙ sym (append_assoc (encode v) (encodeAll vs) (drop to s));
+      after = omega (arith, f.after, r.after, length-append (encode v) (encodeAll vs));
     }
 
 read-item : (test : ℕ → Verdict) (rest : ℕ → Format) (s : List ℕ) (at : ℕ) (us : List ℕ) (end : ℕ) → AreBytes s
@@ -88,13 +90,13 @@ read-item test rest s at us end a ih (Value v next) e h = go (reading (rest v) s
         let x : us ≡ v ∷ vs = cc in
         let y : end ≡ to = cc in
         let k : Held test at (numberAt s at) v next = held test at (numberAt s at) e in
-        rw (x, y) (joined test rest s at v next vs to (write-after-read s at v next a (k .form)) (k .range) (ih v vs next to q))
+        rw (x, y) (joined test rest s at v next vs to (write-after-read s at v next a k.form) k.range (ih v vs next to q))
 
 read-gate : (verdict : Verdict) (rest : Format) (s : List ℕ) (at : ℕ) (us : List ℕ) (end : ℕ) → (reading rest s at ≡ got us end → ReadAs rest us s at end)
     → unlessRefused verdict at (reading rest s at) ≡ got us end → ReadAs (gate verdict rest) us s at end
 unfolding Fits
 read-gate (Against w) rest s at us end ih h = absurd (refused-got h)
-read-gate Fine rest s at us end ih h = let r : ReadAs rest us s at end = ih h in record { fits = (refl, r .fits); bytes = r .bytes; after = r .after }
+read-gate Fine rest s at us end ih h = let r : ReadAs rest us s at end = ih h in record { fits = (refl, r.fits); bytes = r.bytes; after = r.after }
 
 pub write-after-reading : (f : Format) (s : List ℕ) (at : ℕ) (us : List ℕ) (end : ℕ) → AreBytes s → reading f s at ≡ got us end → ReadAs f us s at end
 unfolding reading
@@ -121,8 +123,8 @@ pub record IsFile (f : Format) (vs s : List ℕ) (end : ℕ) : Type 0 where
 
 whole-file : (f : Format) (s us : List ℕ) (to : ℕ) → length s ≤ to → ReadAs f us s 0 to → IsFile f us s to
 whole-file f s us to l r =
-    let b : s ≡ encodeAll us = r .bytes ∙ ap (λ (t : List ℕ). encodeAll us ++ t) (drop-of-length-le s l) ∙ append-nil (encodeAll us) in
-    record { fits = r .fits; bytes = b; takes-all = omega (arith, r .after, ap length b) }
+    let b : s ≡ encodeAll us = r.bytes ∙ ap (λ (t : List ℕ). encodeAll us ++ t) (drop_of_length-le s l) ∙ append-nil (encodeAll us) in
+    record { fits = r.fits; bytes = b; takes-all = omega (arith, r.after, ap length b) }
 
 -- an accepted file was read to its end
 pub file-got : (f : Format) (s vs : List ℕ) (end : ℕ) → fileReading f s ≡ got vs end → (reading f s 0 ≡ got vs end) × (length s ≤ end)
@@ -132,7 +134,7 @@ file-got f s vs end h = go (reading f s 0) refl h
     go : (r : Reading) → reading f s 0 ≡ r → noTail s r ≡ got vs end → (reading f s 0 ≡ got vs end) × (length s ≤ end)
     go (refused w p) e h = absurd (refused-got h)
     go (got us to) e h =
-        elim (decLt to (length s)) [
+        elim (dec_lt to (length s)) [
           | yes l ↦ absurd (refused-got (simp (lt-ltb to (length s) l) at h))
           | no l ↦
               let q : got us to ≡ got vs end = simp (le-ltb to (length s) (omega arith)) at h in

@@ -1,72 +1,72 @@
 -- One byte of a number after the other: what each clause of the definitions says.
-use Prim.Native.Nat.{ℕ, suc, _+_, _-_, _/_, _%_, _<_, _≤_}
-use mathlib.Core.Bool.{true, not, _||_, false≢true}
-use mathlib.Core.List.{List, [], _∷_}
-use mathlib.Core.Path.{_≡_, refl}
-use native.Mathlib.Decide.{decLt, ℕ-discrete}
+use Prim.Native.Nat.{ℕ, suc, ◌+◌, ◌-◌, ◌/◌, ◌%◌, ◌<◌, ◌≤◌}
+use mathlib.Core.Bool.{true, not, ◌||◌, false≢true}
+use mathlib.Core.List.{List, [], ◌∷◌}
+use mathlib.Core.Path.{◌≡◌, refl}
+use native.Mathlib.Decide.{dec_lt, ℕ_discrete}
 use native.Mathlib.Omega.{arith}
 use lib.Dec.{ltb, eqb}
 use lib.ListN.{length}
-use borrow.Author.Tests.{lt-ltb, le-ltb, eq-eqb, ne-eqb}
-use Rattle·verdict.specs.declared.Verdict.{Verdict}
-use Rattle·verdict.specs.declared.Verdict.the-variants.{Fine, Against}
-use Rattle·verdict.specs.Tests.{need, inOrder}
-use Rattle·verdict.proofs.Ordered.{need-fine, order-fine}
-use Rattle·numbers·specs.specs.Numbers.{encodeIn, encode, byteTest, Form, whole, faulty, more, groups}
+use borrow.Author.Tests.{lt-ltb, le-ltb, eq-eqb, ne_eqb}
+use Rattle.verdict.specs.declared.Verdict.{Verdict}
+use Rattle.verdict.specs.declared.Verdict.TheVariants.{Fine, Against}
+use Rattle.verdict.specs.Tests.{need, inOrder}
+use Rattle.verdict.proofs.Ordered.{need-fine, order-fine}
+use Rattle.numbers.specs.Numbers.{encodeIn, encode, byteTest, Form, whole, faulty, more, groups}
 
 -- ---- one byte judged
 
 pub faulty-whole : {w v n : ℕ} → faulty w ≡ whole v n → ⊥
-faulty-whole p = let z : _≡_ {A = ℕ} 0 1 = cc in omega arith
+faulty-whole p = let z : ◌≡◌ {A = ℕ} 0 1 = cc in omega arith
 
 module _ (i b : ℕ) where
   -- a byte 0 that is fine stands first
   pub fine-zero : byteTest i b ≡ Fine → b ≡ 0 → i ≡ 0
   unfolding byteTest
-  fine-zero h z = go (ℕ-discrete i 0) (need-fine (eqb i 0 || not (eqb b 0)) 21 (order-fine _ .0 h .0))
+  fine-zero h z = go (ℕ_discrete i 0) (need-fine (eqb i 0 || not (eqb b 0)) 21 ((order-fine _).0 h).0)
     where
       go : Dec (i ≡ 0) → (eqb i 0 || not (eqb b 0)) ≡ true → i ≡ 0
       go (yes e) t = e
-      go (no n) t = absurd (false≢true (simp (ne-eqb i 0 n, eq-eqb b 0 z) at t))
+      go (no n) t = absurd (false≢true (simp (ne_eqb i 0 n, eq-eqb b 0 z) at t))
 
   -- a tenth byte that is fine is 01
   pub fine-tenth : byteTest i b ≡ Fine → 9 ≤ i → b ≡ 1
   unfolding byteTest
-  fine-tenth h n = go (ℕ-discrete b 1) (need-fine (ltb i 9 || eqb b 1) 21 (order-fine _ .0 h .1 .0))
+  fine-tenth h n = go (ℕ_discrete b 1) (need-fine (ltb i 9 || eqb b 1) 21 ((order-fine _).0 h).1.0)
     where
       go : Dec (b ≡ 1) → (ltb i 9 || eqb b 1) ≡ true → b ≡ 1
       go (yes e) t = e
-      go (no o) t = absurd (false≢true (simp (le-ltb i 9 n, ne-eqb b 1 o) at t))
+      go (no o) t = absurd (false≢true (simp (le-ltb i 9 n, ne_eqb b 1 o) at t))
 
   -- so a byte that another follows is none of the tenth and later
   pub fine-more : byteTest i b ≡ Fine → 128 ≤ b → i < 9
-  fine-more h l = elim (decLt i 9) [ yes n ↦ n | no n ↦ absurd (let z : b ≡ 1 = fine-tenth h (omega arith) in omega arith) ]
+  fine-more h l = elim (dec_lt i 9) [ yes n ↦ n | no n ↦ absurd (let z : b ≡ 1 = fine-tenth h (omega arith) in omega arith) ]
 
   pub against-zero : 0 < i → b ≡ 0 → byteTest i b ≡ Against 21
   unfolding byteTest inOrder need
-  against-zero l z = let n : i ≡ 0 → ⊥ = λ e. omega arith in simp (ne-eqb i 0 n, eq-eqb b 0 z)
+  against-zero l z = let n : i ≡ 0 → ⊥ = λ e. omega arith in simp (ne_eqb i 0 n, eq-eqb b 0 z)
 
   pub against-tenth : 9 ≤ i → (b ≡ 1 → ⊥) → byteTest i b ≡ Against 21
   unfolding byteTest inOrder need
   against-tenth l o =
-      elim (ℕ-discrete b 0) [
+      elim (ℕ_discrete b 0) [
         | yes z ↦ against-zero (omega arith) z
         | no z ↦ late z
       ]
     where
       late : (b ≡ 0 → ⊥) → byteTest i b ≡ Against 21
-      late z = let n : i ≡ 0 → ⊥ = λ e. omega arith in simp (ne-eqb i 0 n, ne-eqb b 0 z, le-ltb i 9 l, ne-eqb b 1 o)
+      late z = let n : i ≡ 0 → ⊥ = λ e. omega arith in simp (ne_eqb i 0 n, ne_eqb b 0 z, le-ltb i 9 l, ne_eqb b 1 o)
 
   pub fine-when : (b ≡ 0 → i ≡ 0) → (9 ≤ i → b ≡ 1) → byteTest i b ≡ Fine
   unfolding byteTest inOrder need
-  fine-when f t = go (ℕ-discrete i 0) (decLt i 9)
+  fine-when f t = go (ℕ_discrete i 0) (dec_lt i 9)
     where
       go : Dec (i ≡ 0) → Dec (i < 9) → byteTest i b ≡ Fine
       go (yes e) d = let l : i < 9 = omega arith in simp (eq-eqb i 0 e, lt-ltb i 9 l)
-      go (no n) (yes l) = simp (ne-eqb i 0 n, ne-eqb b 0 (λ z. n (f z)), lt-ltb i 9 l)
+      go (no n) (yes l) = simp (ne_eqb i 0 n, ne_eqb b 0 (λ z. n (f z)), lt-ltb i 9 l)
       go (no n) (no l) =
           let r : 9 ≤ i = omega arith in
-          simp (ne-eqb i 0 n, ne-eqb b 0 (λ z. n (f z)), le-ltb i 9 r, eq-eqb b 1 (t r))
+          simp (ne_eqb i 0 n, ne_eqb b 0 (λ z. n (f z)), le-ltb i 9 r, eq-eqb b 1 (t r))
 
 -- ---- the bytes of a number
 
@@ -98,7 +98,7 @@ groups-cases i b bs P bad last goes = go (byteTest i b) refl
     go : (v : Verdict) → byteTest i b ≡ v → P (groups i (b ∷ bs))
     go (Against w) e = rw (groups-bad i b bs e) (bad w e)
     go Fine e =
-        elim (decLt b 128) [
+        elim (dec_lt b 128) [
           | yes l ↦ rw (groups-last i b bs e l) (last e l)
           | no l ↦ let k : 128 ≤ b = omega arith in rw (groups-more i b bs e k) (goes e k (fine-more i b e k))
         ]
@@ -113,7 +113,7 @@ encode-more m v l = rw (le-ltb v 128 l)
 
 pub encode-some : (m v : ℕ) → 0 < length (encodeIn (suc m) v)
 encode-some m v =
-    elim (decLt v 128) [
+    elim (dec_lt v 128) [
       | yes l ↦ rw (encode-last m v l) (omega arith)
       | no l ↦ let k : 128 ≤ v = omega arith in rw (encode-more m v k) (omega arith)
     ]

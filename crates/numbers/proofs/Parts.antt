@@ -1,16 +1,16 @@
 -- A format and what follows it, and several numbers of one kind: how they are read, what fits them, and their bytes.
-use Prim.Native.Nat.{ℕ, zero, suc, _-_, _<_, _≤_}
-use mathlib.Core.List.{List, [], _∷_, _++_, append-assoc}
-use mathlib.Core.Path.{_≡_, refl, sym, ap, _∙_}
+use Prim.Native.Nat.{ℕ, zero, suc, ◌-◌, ◌<◌, ◌≤◌}
+use mathlib.Core.List.{List, [], ◌∷◌, ◌++◌, append_assoc}
+use mathlib.Core.Path.{◌≡◌, refl, sym, ap, ◌∙◌}
 use native.Mathlib.Omega.{arith}
 use lib.ListN.{length, take, drop}
-use Rattle·verdict.specs.declared.Verdict.{Verdict}
-use Rattle·verdict.specs.declared.Verdict.the-variants.{Fine, Against}
-use Rattle·numbers·specs.specs.declared.Number.{Number}
-use Rattle·numbers·specs.specs.declared.Number.the-variants.{Value, Fault}
-use Rattle·numbers·specs.specs.Numbers.{encode, numberAt}
-use Rattle·numbers·specs.specs.Format.{Format, ended, item, gate, many, Reading, got, refused, heldTo, orRefused, unlessRefused, before, reading, encodeAll, Fits}
-use Rattle·numbers·proofs.proofs.Formats.{refused-got}
+use Rattle.verdict.specs.declared.Verdict.{Verdict}
+use Rattle.verdict.specs.declared.Verdict.TheVariants.{Fine, Against}
+use Rattle.numbers.specs.declared.Number.{Number}
+use Rattle.numbers.specs.declared.Number.TheVariants.{Value, Fault}
+use Rattle.numbers.specs.Numbers.{encode, numberAt}
+use Rattle.numbers.specs.Format.{Format, ended, item, gate, many, Reading, got, refused, heldTo, orRefused, unlessRefused, before, reading, encodeAll, Fits}
+use Rattle.numbers.proofs.Formats.{refused-got}
 
 pub many-none : (test : ℕ → Verdict) (f : Format) → many 0 test f ≡ f
 unfolding many
@@ -114,19 +114,19 @@ unfolding many Fits
 fits-many zero test f vs h = record { first = tt; rest = h; enough = omega arith }
 fits-many (suc m) test f [] h = absurd h
 fits-many (suc m) test f (v ∷ vs) h =
-    let r : FitsMany m test f vs = fits-many m test f vs (h .2) in
-    record { first = (h .0, h .1, r .first); rest = r .rest; enough = omega (arith, r .enough) }
+    let r : FitsMany m test f vs = fits-many m test f vs h.2 in
+    record { first = (h.0, h.1, r.first); rest = r.rest; enough = omega (arith, r.enough) }
 
 pub many-fits : (m : ℕ) (test : ℕ → Verdict) (f : Format) (ws us : List ℕ) → Fits (many m test ended) ws → Fits f us → Fits (many m test f) (ws ++ us)
 unfolding many Fits
 many-fits zero test f [] us h k = k
 many-fits zero test f (w ∷ ws) us h k = absurd h
 many-fits (suc m) test f [] us h k = absurd h
-many-fits (suc m) test f (w ∷ ws) us h k = (h .0, h .1, many-fits m test f ws us (h .2) k)
+many-fits (suc m) test f (w ∷ ws) us h k = (h.0, h.1, many-fits m test f ws us h.2 k)
 
 -- ---- the bytes of two parts
 
 pub encode-append : (us vs : List ℕ) → encodeAll (us ++ vs) ≡ encodeAll us ++ encodeAll vs
 unfolding encodeAll
 encode-append [] vs = refl
-encode-append (u ∷ us) vs = ap (λ (l : List ℕ). encode u ++ l) (encode-append us vs) ∙ sym (append-assoc (encode u) (encodeAll us) (encodeAll vs))
+encode-append (u ∷ us) vs = ap (λ (l : List ℕ). encode u ++ l) (encode-append us vs) ∙ sym (append_assoc (encode u) (encodeAll us) (encodeAll vs))

@@ -1,23 +1,23 @@
 -- The first fault by place, for every format: the numbers before the place are right, and what stands there is what is refused.
-use Prim.Native.Nat.{ℕ, zero, suc, _+_, _≤_}
-use mathlib.Core.List.{List, [], _∷_, _++_, append-assoc}
-use mathlib.Core.Logic.{_↔_}
-use mathlib.Core.Path.{_≡_, refl, sym, ap, _∙_}
-use native.Mathlib.Decide.{decLt}
+use Prim.Native.Nat.{ℕ, zero, suc, ◌+◌, ◌≤◌}
+use mathlib.Core.List.{List, [], ◌∷◌, ◌++◌, append_assoc}
+use mathlib.Core.Logic.{◌↔◌}
+use mathlib.Core.Path.{◌≡◌, refl, sym, ap, ◌∙◌}
+use native.Mathlib.Decide.{dec_lt}
 use native.Mathlib.Omega.{arith}
 use lib.ListN.{length, drop, length-append}
 use borrow.Author.Tests.{lt-ltb, le-ltb}
-use Rattle·verdict.specs.declared.Verdict.{Verdict}
-use Rattle·verdict.specs.declared.Verdict.the-variants.{Fine, Against}
-use Rattle·numbers·specs.specs.declared.Number.{Number}
-use Rattle·numbers·specs.specs.declared.Number.the-variants.{Value, Fault}
-use Rattle·numbers·specs.specs.Numbers.{encode, numberAt, AreBytes}
-use Rattle·numbers·specs.specs.Format.{Format, ended, item, gate, many, Reading, got, refused, ruled, heldTo, orRefused, unlessRefused, before, reading, noTail, fileReading, encodeAll, Fits}
-use Rattle·numbers·specs.specs.Faults.{After, here, taken, through, StoppedBy, by-form, by-range, by-gate, by-tail, Stops}
-use Rattle·numbers·proofs.proofs.RoundTrip.{Found, read-after-write, write-after-read}
-use Rattle·numbers·proofs.proofs.Faults.{fault-is}
-use Rattle·numbers·proofs.proofs.Formats.{refused-got, behind as behind-first, ReadAs, write-after-reading}
-use Rattle·numbers·proofs.proofs.Parts.{beforeAll, none-before, one-before-all}
+use Rattle.verdict.specs.declared.Verdict.{Verdict}
+use Rattle.verdict.specs.declared.Verdict.TheVariants.{Fine, Against}
+use Rattle.numbers.specs.declared.Number.{Number}
+use Rattle.numbers.specs.declared.Number.TheVariants.{Value, Fault}
+use Rattle.numbers.specs.Numbers.{encode, numberAt, AreBytes}
+use Rattle.numbers.specs.Format.{Format, ended, item, gate, many, Reading, got, refused, ruled, heldTo, orRefused, unlessRefused, before, reading, noTail, fileReading, encodeAll, Fits}
+use Rattle.numbers.specs.Faults.{After, here, taken, through, StoppedBy, by-form, by-range, by-gate, by-tail, Stops}
+use Rattle.numbers.proofs.RoundTrip.{Found, read-after-write, write-after-read}
+use Rattle.numbers.proofs.Faults.{fault-is}
+use Rattle.numbers.proofs.Formats.{refused-got, behind as behind-first, ReadAs, write-after-reading}
+use Rattle.numbers.proofs.Parts.{beforeAll, none-before, one-before-all}
 
 stops-here : (f : Format) (s : List ℕ) (at : ℕ) {w place : ℕ} → place ≡ at → StoppedBy s w place f → Stops f s at w place
 unfolding encodeAll
@@ -28,15 +28,15 @@ stops-later : (test : ℕ → Verdict) (rest : ℕ → Format) (s : List ℕ) (a
 unfolding encodeAll
 stops-later test rest s at v next {w} {place} f q r =
     record {
-      us = v ∷ r .us;
-      left = r .left;
-      follows = taken (f .small) q (r .follows);
-      bytes = f .bytes ∙ ap (λ (l : List ℕ). encode v ++ l) (r .bytes) ∙ sym (append-assoc (encode v) (encodeAll (r .us)) (drop place s));
-      placed = omega (arith, f .after, r .placed, length-append (encode v) (encodeAll (r .us)));
-      stopped = r .stopped;
+      us = v ∷ r.us;
+      left = r.left;
+      follows = taken f.small q r.follows;
+      bytes = f.bytes ∙ ap (λ (l : List ℕ). encode v ++ l) r.bytes ∙ sym (append_assoc (encode v) (encodeAll r.us) (drop place s));
+      placed = omega (arith, f.after, r.placed, length-append (encode v) (encodeAll r.us));
+      stopped = r.stopped;
     }
 
-refused-is : {w p w′ p′ : ℕ} → refused w p ≡ refused w′ p′ → (w ≡ w′) × (p ≡ p′)
+refused-is : {w p w' p' : ℕ} → refused w p ≡ refused w' p' → (w ≡ w') × (p ≡ p')
 refused-is h = (cc, cc)
 
 before-refused : (v : ℕ) (r : Reading) {w p : ℕ} → before v r ≡ refused w p → r ≡ refused w p
@@ -47,24 +47,24 @@ stops-item : (test : ℕ → Verdict) (rest : ℕ → Format) (s : List ℕ) (at
     → ((v next : ℕ) → reading (rest v) s next ≡ refused w place → Stops (rest v) s next w place)
     → (n : Number) → numberAt s at ≡ n → orRefused (heldTo test at n) (λ v next. before v (reading (rest v) s next)) ≡ refused w place
     → Stops (item test rest) s at w place
-stops-item test rest s at w place a ih (Fault w′ p′) e h =
+stops-item test rest s at w place a ih (Fault w' p') e h =
     let (i, j) = refused-is h in
-    let k : p′ ≡ at = fault-is s at e .1 in
+    let k : p' ≡ at = (fault-is s at e).1 in
     stops-here (item test rest) s at (sym j ∙ k) (by-form (rw (← i, ← j) (ap (numberAt s) k ∙ e)))
 stops-item test rest s at w place a ih (Value v next) e h = go (test v) refl h
   where
     go : (u : Verdict) → test v ≡ u → orRefused (ruled u at v next) (λ v next. before v (reading (rest v) s next)) ≡ refused w place → Stops (item test rest) s at w place
-    go (Against w′) q h =
+    go (Against w') q h =
         let (i, j) = refused-is h in
         stops-here (item test rest) s at (sym j) (by-range (ap (numberAt s) (sym j) ∙ e) (q ∙ ap Against i))
     go Fine q h = stops-later test rest s at v next (write-after-read s at v next a e) q (ih v next (before-refused v (reading (rest v) s next) h))
 
 stops-gate : (verdict : Verdict) (rest : Format) (s : List ℕ) (at w place : ℕ) → (reading rest s at ≡ refused w place → Stops rest s at w place)
     → unlessRefused verdict at (reading rest s at) ≡ refused w place → Stops (gate verdict rest) s at w place
-stops-gate (Against w′) rest s at w place ih h = let (i, j) = refused-is h in stops-here (gate (Against w′) rest) s at (sym j) (by-gate (ap Against i))
+stops-gate (Against w') rest s at w place ih h = let (i, j) = refused-is h in stops-here (gate (Against w') rest) s at (sym j) (by-gate (ap Against i))
 stops-gate Fine rest s at w place ih h =
     let r : Stops rest s at w place = ih h in
-    record { us = r .us; left = r .left; follows = through refl (r .follows); bytes = r .bytes; placed = r .placed; stopped = r .stopped }
+    record { us = r.us; left = r.left; follows = through refl r.follows; bytes = r.bytes; placed = r.placed; stopped = r.stopped }
 
 stops : (f : Format) (s : List ℕ) (at w place : ℕ) → AreBytes s → reading f s at ≡ refused w place → Stops f s at w place
 unfolding reading
@@ -79,8 +79,8 @@ unfolding Fits
 fits-after ended [] h = here
 fits-after ended (u ∷ us) h = absurd h
 fits-after (item test rest) [] h = absurd h
-fits-after (item test rest) (u ∷ us) h = taken (h .0) (h .1) (fits-after (rest u) us (h .2))
-fits-after (gate verdict rest) us h = through (h .0) (fits-after rest us (h .1))
+fits-after (item test rest) (u ∷ us) h = taken h.0 h.1 (fits-after (rest u) us h.2)
+fits-after (gate verdict rest) us h = through h.0 (fits-after rest us h.1)
 
 pub after-fits : {f : Format} {us : List ℕ} → After f us ended → Fits f us
 unfolding Fits
@@ -112,7 +112,7 @@ reading-behind : (s : List ℕ) {f : Format} {us : List ℕ} {g : Format} → Af
 unfolding reading encodeAll
 reading-behind s {f} here at t e = none-before (reading f s at) ∙ ap (λ (n : ℕ). beforeAll [] (reading f s n)) (omega arith)
 reading-behind s (taken {v = v} {us = us} {g = g} l q h) at t e =
-    let d : drop at s ≡ encode v ++ (encodeAll us ++ t) = e ∙ append-assoc (encode v) (encodeAll us) t in
+    let d : drop at s ≡ encode v ++ (encodeAll us ++ t) = e ∙ append_assoc (encode v) (encodeAll us) t in
     let n : at + length (encode v) + length (encodeAll us) ≡ at + length (encode v ++ encodeAll us) = omega (arith, length-append (encode v) (encodeAll us)) in
     simp (read-after-write s at v (encodeAll us ++ t) l d, q)
     (ap (before v) (reading-behind s h (at + length (encode v)) t (behind-first s at (encode v) (encodeAll us ++ t) d))
@@ -130,27 +130,27 @@ stopped-there s us {place = place} (by-tail q h) = rw (lt-ltb place (length s) h
 faulty-there : (f : Format) (s : List ℕ) (w place : ℕ) → Stops f s 0 w place → fileReading f s ≡ refused w place
 unfolding fileReading
 faulty-there f s w place r =
-    let e : 0 + length (encodeAll (r .us)) ≡ place = sym (r .placed) in
-    ap (noTail s) (reading-behind s (r .follows) 0 (drop place s) (r .bytes) ∙ ap (λ (n : ℕ). beforeAll (r .us) (reading (r .left) s n)) e)
-    ∙ stopped-there s (r .us) (r .stopped)
+    let e : 0 + length (encodeAll r.us) ≡ place = sym r.placed in
+    ap (noTail s) (reading-behind s r.follows 0 (drop place s) r.bytes ∙ ap (λ (n : ℕ). beforeAll r.us (reading r.left s n)) e)
+    ∙ stopped-there s r.us r.stopped
 
 faulty-first : (f : Format) (s : List ℕ) (w place : ℕ) → AreBytes s → fileReading f s ≡ refused w place → Stops f s 0 w place
 unfolding fileReading
 faulty-first f s w place a h = go (reading f s 0) refl h
   where
     go : (r : Reading) → reading f s 0 ≡ r → noTail s r ≡ refused w place → Stops f s 0 w place
-    go (refused w′ p′) e h = let (i, j) = refused-is h in stops f s 0 w place a (e ∙ ap (refused w′) j ∙ ap (λ (x : ℕ). refused x place) i)
+    go (refused w' p') e h = let (i, j) = refused-is h in stops f s 0 w place a (e ∙ ap (refused w') j ∙ ap (λ (x : ℕ). refused x place) i)
     go (got us to) e h =
-        elim (decLt to (length s)) [
+        elim (dec_lt to (length s)) [
           | yes l ↦
               let (i, j) = refused-is (simp (lt-ltb to (length s) l) at h) in
               let r : ReadAs f us s 0 to = write-after-reading f s 0 us to a e in
               record {
                 us = us;
                 left = ended;
-                follows = fits-after f us (r .fits);
-                bytes = rw (← j) (r .bytes);
-                placed = sym j ∙ r .after;
+                follows = fits-after f us r.fits;
+                bytes = rw (← j) r.bytes;
+                placed = sym j ∙ r.after;
                 stopped = by-tail (sym i) (rw (← j) l);
               }
           | no l ↦ let m : length s ≤ to = omega arith in absurd (refused-got (sym (simp (le-ltb to (length s) m) at h)))

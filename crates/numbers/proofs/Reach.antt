@@ -1,18 +1,18 @@
 -- How far reading looks: a format of m numbers reads the same where all but 10 * m bytes from its place on are left out.
-use Prim.Native.Nat.{ℕ, zero, suc, _+_, _*_, _≤_}
+use Prim.Native.Nat.{ℕ, zero, suc, ◌+◌, ◌*◌, ◌≤◌}
 use mathlib.Core.List.{List}
-use mathlib.Core.Path.{_≡_, refl, ap, _∙_}
+use mathlib.Core.Path.{◌≡◌, refl, ap, ◌∙◌}
 use native.Mathlib.Omega.{arith}
 use lib.ListN.{take}
-use Rattle·verdict.specs.declared.Verdict.{Verdict}
-use Rattle·verdict.specs.declared.Verdict.the-variants.{Fine}
-use Rattle·numbers·specs.specs.declared.Number.{Number}
-use Rattle·numbers·specs.specs.declared.Number.the-variants.{Value, Fault}
-use Rattle·numbers·specs.specs.Numbers.{numberAt, AreBytes}
-use Rattle·numbers·specs.specs.Format.{Format, ended, item, gate, many, heldTo, orRefused, unlessRefused, before, reading}
-use Rattle·numbers·proofs.proofs.TenBytes.{encode-ten, ten-decide}
-use Rattle·numbers·proofs.proofs.RoundTrip.{Found, write-after-read}
-use Rattle·numbers·proofs.proofs.Formats.{Held, held}
+use Rattle.verdict.specs.declared.Verdict.{Verdict}
+use Rattle.verdict.specs.declared.Verdict.TheVariants.{Fine}
+use Rattle.numbers.specs.declared.Number.{Number}
+use Rattle.numbers.specs.declared.Number.TheVariants.{Value, Fault}
+use Rattle.numbers.specs.Numbers.{numberAt, AreBytes}
+use Rattle.numbers.specs.Format.{Format, ended, item, gate, many, heldTo, orRefused, unlessRefused, before, reading}
+use Rattle.numbers.proofs.TenBytes.{encode-ten, ten-decide}
+use Rattle.numbers.proofs.RoundTrip.{Found, write-after-read}
+use Rattle.numbers.proofs.Formats.{Held, held}
 
 -- at most m numbers
 unfoldable pub Short : ℕ → Format → Type 0
@@ -54,5 +54,5 @@ reach ended m s at c a h k = refl
 reach (item test rest) zero s at c a h k = absurd h
 reach (item test rest) (suc m) s at c a h k =
     item-reach test rest s at c (omega arith)
-    (λ v next q. reach (rest v) m s next c a (h v (q .range)) (let f : Found s at v next = write-after-read s at v next a (q .form) in omega (arith, f .after, encode-ten v)))
+    (λ v next q. reach (rest v) m s next c a (h v q.range) (let f : Found s at v next = write-after-read s at v next a q.form in omega (arith, f.after, encode-ten v)))
 reach (gate verdict rest) m s at c a h k = ap (unlessRefused verdict at) (reach rest m s at c a h k)

@@ -1,17 +1,17 @@
 -- The reader's loop: what the groups read so far are worth stands in front of what is still to be read.
-use Prim.Native.Nat.{ℕ, suc, _+_, _*_, _-_, _^_, _<_, _≤_}
-use mathlib.Core.List.{List, _∷_}
-use mathlib.Core.Path.{_≡_, refl, sym, ap, _∙_}
-use native.Mathlib.Decide.{decLt}
-use native.Mathlib.Nat.{pow-suc, pow-zero, pow-le-pow-right, mul-le-mul-right, add-mul, mul-assoc, mul-comm, zero-lt-suc}
+use Prim.Native.Nat.{ℕ, suc, ◌+◌, ◌*◌, ◌-◌, ◌^◌, ◌<◌, ◌≤◌}
+use mathlib.Core.List.{List, ◌∷◌}
+use mathlib.Core.Path.{◌≡◌, refl, ap, ◌∙◌}
+use native.Mathlib.Decide.{dec_lt}
+use native.Mathlib.Nat.{pow-suc, pow-le-pow_right, mul-le-mul_right, add-mul, mul_assoc, mul_comm, zero-lt-suc}
 use native.Mathlib.Numerals.{add-one}
 use native.Mathlib.Omega.{arith}
-use lib.ListN.{length, drop, getD, drop-of-length-le}
+use lib.ListN.{length, drop, get_or, drop_of_length-le}
 use lib.Seq.{drop-cons}
-use Rattle·verdict.specs.declared.Verdict.the-variants.{Fine, Against}
-use Rattle·numbers·specs.specs.declared.Number.the-variants.{Value, Fault}
-use Rattle·numbers·specs.specs.Numbers.{byteTest, Form, whole, faulty, more, groups, placed, numberAt}
-use Rattle·numbers·proofs.proofs.Groups.{fine-tenth, fine-more, groups-none, groups-bad, groups-last, groups-more}
+use Rattle.verdict.specs.declared.Verdict.TheVariants.{Fine, Against}
+use Rattle.numbers.specs.declared.Number.TheVariants.{Value, Fault}
+use Rattle.numbers.specs.Numbers.{byteTest, Form, whole, faulty, more, groups, placed, numberAt}
+use Rattle.numbers.proofs.Groups.{fine-tenth, fine-more, groups-none, groups-bad, groups-last, groups-more}
 
 -- i groups, worth value in all, in front of a form
 abbrev pub carry : ℕ → ℕ → ℕ → Form → Form
@@ -25,59 +25,49 @@ pub record Going (s : List ℕ) (at value weight place i : ℕ) : Type 0 where
   pub small : value < weight
   pub same : groups 0 (drop at s) ≡ carry value weight i (groups i (drop place s))
 
-carry-none : (f : Form) → f ≡ carry 0 1 0 f
-carry-none (whole v n) =
-    let x : v ≡ 0 + v * 1 = omega arith in
-    let y : n ≡ 0 + n = omega arith in
-    cc
-carry-none (faulty w) = refl
-
 carry-more : (value weight i g : ℕ) (f : Form) → carry value weight i (more g f) ≡ carry (value + g * weight) (weight * 128) (i + 1) f
 carry-more value weight i g (whole v n) =
     let x : (g + v * 128) * weight ≡ g * weight + v * (weight * 128) =
-    add-mul g (v * 128) weight ∙ ap (λ (z : ℕ). g * weight + z) (mul-assoc v 128 weight ∙ ap (λ (z : ℕ). v * z) (mul-comm 128 weight)) in
+    add-mul g (v * 128) weight ∙ ap (λ (z : ℕ). g * weight + z) (mul_assoc v 128 weight ∙ ap (λ (z : ℕ). v * z) (mul_comm 128 weight)) in
     let y : value + (g + v * 128) * weight ≡ value + g * weight + v * (weight * 128) = omega arith in
     let z : i + suc n ≡ i + 1 + n = omega arith in
     cc
 carry-more value weight i g (faulty w) = refl
-
-pub going-first : (s : List ℕ) (at : ℕ) → Going s at 0 1 at 0
-going-first s at = record { stands = omega arith; few = omega arith; power = sym (pow-zero 128); small = omega arith; same = carry-none (groups 0 (drop at s)) }
 
 number-is : (s : List ℕ) (at : ℕ) (f : Form) → groups 0 (drop at s) ≡ f → placed at f ≡ numberAt s at
 unfolding numberAt
 number-is s at f h = rw h
 
 powers : (i j : ℕ) → i ≤ j → 128 ^ i ≤ 128 ^ j
-powers i j h = pow-le-pow-right (zero-lt-suc 127) h
+powers i j h = pow-le-pow_right (zero-lt-suc 127) h
 
 module _ {s : List ℕ} {at value weight place i : ℕ} (g : Going s at value weight place i) where
   pub going-cut : length s ≤ place → Fault 20 at ≡ numberAt s at
-  going-cut h = number-is s at (faulty 20) (g .same ∙ ap (carry value weight i) (ap (groups i) (drop-of-length-le s h) ∙ groups-none i))
+  going-cut h = number-is s at (faulty 20) (g.same ∙ ap (carry value weight i) (ap (groups i) (drop_of_length-le s h) ∙ groups-none i))
 
-  module _ {b : ℕ} (h : place < length s) (e : b ≡ getD s place 0) where
+  module _ {b : ℕ} (h : place < length s) (e : b ≡ get_or s place 0) where
     head : groups i (drop place s) ≡ groups i (b ∷ drop (suc place) s)
     head = ap (groups i) (drop-cons s place 0 h ∙ rw e)
 
     pub going-bad : {w : ℕ} → byteTest i b ≡ Against w → Fault w at ≡ numberAt s at
-    going-bad {w} j = number-is s at (faulty w) (g .same ∙ ap (carry value weight i) (head ∙ groups-bad i b (drop (suc place) s) j))
+    going-bad {w} j = number-is s at (faulty w) (g.same ∙ ap (carry value weight i) (head ∙ groups-bad i b (drop (suc place) s) j))
 
     pub going-last : byteTest i b ≡ Fine → b < 128 → Value (value + b * weight) (place + 1) ≡ numberAt s at
     going-last j l =
-        let p : place + 1 ≡ at + (i + 1) = omega (arith, g .stands) in
-        rw p (number-is s at (whole (value + b * weight) (i + 1)) (g .same ∙ ap (carry value weight i) (head ∙ groups-last i b (drop (suc place) s) j l)))
+        let p : place + 1 ≡ at + (i + 1) = omega (arith, g.stands) in
+        rw p (number-is s at (whole (value + b * weight) (i + 1)) (g.same ∙ ap (carry value weight i) (head ∙ groups-last i b (drop (suc place) s) j l)))
 
     pub going-more : byteTest i b ≡ Fine → 128 ≤ b → b < 256 → Going s at (value + (b - 128) * weight) (weight * 128) (place + 1) (i + 1)
     going-more j l u =
         let n : i < 9 = fine-more i b j l in
-        let q : (b - 128) * weight ≤ 127 * weight = mul-le-mul-right weight (omega arith) in
+        let q : (b - 128) * weight ≤ 127 * weight = mul-le-mul_right weight (omega arith) in
         record {
-          stands = omega (arith, g .stands);
+          stands = omega (arith, g.stands);
           few = omega arith;
-          power = rw (add-one, pow-suc 128 i, g .power);
-          small = omega (arith, g .small);
+          power = rw (add-one, pow-suc 128 i, g.power);
+          small = omega (arith, g.small);
           same =
-              g .same
+              g.same
               ∙ ap (carry value weight i) (head ∙ groups-more i b (drop (suc place) s) j l)
               ∙ carry-more value weight i (b - 128) (groups (suc i) (drop (suc place) s))
               ∙ rw (add-one place, add-one i);
@@ -87,28 +77,28 @@ module _ {s : List ℕ} {at value weight place i : ℕ} (g : Going s at value we
   module _ {b : ℕ} (j : byteTest i b ≡ Fine) where
     pub last-fits : b < 128 → value + b * weight < 2 ^ 64
     last-fits l =
-        elim (decLt i 9) [
+        elim (dec_lt i 9) [
           | yes n ↦
-              let q : b * weight ≤ 127 * weight = mul-le-mul-right weight (omega arith) in
+              let q : b * weight ≤ 127 * weight = mul-le-mul_right weight (omega arith) in
               let r : 128 ^ i ≤ 128 ^ 8 = powers i 8 (omega arith) in
-              let k : weight ≤ 2 ^ 56 = omega (arith, g .power) in
-              omega (arith, g .small)
+              let k : weight ≤ 2 ^ 56 = omega (arith, g.power) in
+              omega (arith, g.small)
           | no n ↦
               let o : b ≡ 1 = fine-tenth i b j (omega arith) in
-              let q : b * weight ≤ 1 * weight = mul-le-mul-right weight (omega arith) in
-              let r : 128 ^ i ≤ 128 ^ 9 = powers i 9 (g .few) in
-              let k : weight ≤ 2 ^ 63 = omega (arith, g .power) in
-              omega (arith, g .small)
+              let q : b * weight ≤ 1 * weight = mul-le-mul_right weight (omega arith) in
+              let r : 128 ^ i ≤ 128 ^ 9 = powers i 9 g.few in
+              let k : weight ≤ 2 ^ 63 = omega (arith, g.power) in
+              omega (arith, g.small)
         ]
 
     pub weight-fits : 128 ≤ b → weight * 128 < 2 ^ 64
     weight-fits l =
         let n : i < 9 = fine-more i b j l in
         let r : 128 ^ i ≤ 128 ^ 8 = powers i 8 (omega arith) in
-        let k : weight ≤ 2 ^ 56 = omega (arith, g .power) in
+        let k : weight ≤ 2 ^ 56 = omega (arith, g.power) in
         omega arith
 
     pub more-fits : 128 ≤ b → b < 256 → value + (b - 128) * weight < 2 ^ 64
     more-fits l u =
-        let q : (b - 128) * weight ≤ 127 * weight = mul-le-mul-right weight (omega arith) in
-        omega (arith, weight-fits l, g .small)
+        let q : (b - 128) * weight ≤ 127 * weight = mul-le-mul_right weight (omega arith) in
+        omega (arith, weight-fits l, g.small)

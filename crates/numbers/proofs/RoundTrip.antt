@@ -1,20 +1,20 @@
 -- The two round trips of one number: what was written reads as what it was, and what reads as a value is its bytes and no others.
-use Prim.Native.Nat.{ℕ, zero, suc, _+_, _*_, _-_, _/_, _%_, _^_, _<_, _≤_}
-use mathlib.Core.List.{List, [], _∷_, _++_}
-use mathlib.Core.Path.{_≡_, refl, sym, ap, _∙_}
-use native.Mathlib.Decide.{decLt, ℕ-discrete}
+use Prim.Native.Nat.{ℕ, zero, suc, ◌+◌, ◌*◌, ◌-◌, ◌/◌, ◌%◌, ◌^◌, ◌<◌, ◌≤◌}
+use mathlib.Core.List.{List, [], ◌∷◌, ◌++◌}
+use mathlib.Core.Path.{◌≡◌, refl, sym, ap, ◌∙◌}
+use native.Mathlib.Decide.{dec_lt, ℕ_discrete}
 use native.Mathlib.Nat.{pow-suc, pow-zero}
 use native.Mathlib.Omega.{arith}
 use lib.ListN.{length, drop}
-use lib.Seq.{drop-drop, getD-drop}
-use Rattle·verdict.specs.declared.Verdict.the-variants.{Fine}
-use Rattle·numbers·specs.specs.declared.Number.the-variants.{Value, Fault}
-use Rattle·numbers·specs.specs.Numbers.{encodeIn, encode, byteTest, Form, whole, faulty, more, groups, placed, numberAt, AreBytes}
-use Rattle·numbers·proofs.proofs.Groups.{faulty-whole, fine-zero, fine-tenth, fine-when, groups-none, groups-last, groups-more, groups-cases, encode-last, encode-more}
+use lib.Seq.{drop-drop, get_or-drop}
+use Rattle.verdict.specs.declared.Verdict.TheVariants.{Fine}
+use Rattle.numbers.specs.declared.Number.TheVariants.{Value, Fault}
+use Rattle.numbers.specs.Numbers.{encodeIn, encode, byteTest, Form, whole, faulty, more, groups, placed, numberAt, AreBytes}
+use Rattle.numbers.proofs.Groups.{faulty-whole, fine-zero, fine-tenth, fine-when, groups-none, groups-last, groups-more, groups-cases, encode-last, encode-more}
 
-pow-pos : (m : ℕ) → 0 < 128 ^ m
-pow-pos zero = omega (arith, pow-zero 128)
-pow-pos (suc m) = let w : 0 < 128 ^ m = pow-pos m in omega (arith, pow-suc 128 m)
+pow_pos : (m : ℕ) → 0 < 128 ^ m
+pow_pos zero = omega (arith, pow-zero 128)
+pow_pos (suc m) = let w : 0 < 128 ^ m = pow_pos m in omega (arith, pow-suc 128 m)
 
 -- ---- reading what was written, from byte number i on, where m bytes more may follow the next
 
@@ -48,7 +48,7 @@ read-written : (m i v : ℕ) (t : List ℕ) → i + m ≡ 9 → v < 2 * 128 ^ m 
     → groups i (encodeIn (suc m) v ++ t) ≡ whole v (length (encodeIn (suc m) v))
 read-written zero i v t e b p = read-last zero i v t e b p (omega (arith, pow-zero 128))
 read-written (suc m) i v t e b p =
-    elim (decLt v 128) [
+    elim (dec_lt v 128) [
       | yes l ↦ read-last (suc m) i v t e b p l
       | no l ↦
           read-more m i v t e (omega arith)
@@ -65,7 +65,7 @@ record Written (bs : List ℕ) (m i v n : ℕ) : Type 0 where
 
 last-small : (m i b : ℕ) → i + m ≡ 9 → byteTest i b ≡ Fine → b < 128 → b < 2 * 128 ^ m
 last-small zero i b e f l = let w : b ≡ 1 = fine-tenth i b f (omega arith) in omega (arith, pow-zero 128)
-last-small (suc m) i b e f l = omega (arith, pow-suc 128 m, pow-pos m)
+last-small (suc m) i b e f l = omega (arith, pow-suc 128 m, pow_pos m)
 
 written-last : (b : ℕ) (bs : List ℕ) (m i v n : ℕ) → i + m ≡ 9 → byteTest i b ≡ Fine → b < 128 → whole b 1 ≡ whole v n → Written (b ∷ bs) m i v n
 written-last b bs m i v n e f l q =
@@ -75,7 +75,7 @@ written-last b bs m i v n e f l q =
       bytes = rw (x, y, encode-last m b l);
       taken = rw (x, y, encode-last m b l);
       small = rw x (last-small m i b e f l);
-      some = λ p. elim (ℕ-discrete b 0) [ yes z ↦ absurd (let w : i ≡ 0 = fine-zero i b f z in omega arith) | no z ↦ omega arith ];
+      some = λ p. elim (ℕ_discrete b 0) [ yes z ↦ absurd (let w : i ≡ 0 = fine-zero i b f z in omega arith) | no z ↦ omega arith ];
     }
 
 written-more : (b : ℕ) (bs : List ℕ) (m i v n g k : ℕ) → i + suc m ≡ 9 → 128 ≤ b → b < 256
@@ -83,14 +83,14 @@ written-more : (b : ℕ) (bs : List ℕ) (m i v n g k : ℕ) → i + suc m ≡ 9
 written-more b bs m i v n g k e l u h q =
     let x : v ≡ b - 128 + g * 128 = cc in
     let y : n ≡ suc k = cc in
-    let s : 0 < g = h .some (omega arith) in
+    let s : 0 < g = h.some (omega arith) in
     let r : 128 ≤ v = omega arith in
     let d : v / 128 ≡ g = omega arith in
     let o : 128 + v % 128 ≡ b = omega arith in
     record {
-      bytes = rw (encode-more (suc m) v r, y, d, o) (ap (λ (z : List ℕ). b ∷ z) (h .bytes));
-      taken = rw (encode-more (suc m) v r, y, d) (ap suc (h .taken));
-      small = omega (arith, h .small, pow-suc 128 m);
+      bytes = rw (encode-more (suc m) v r, y, d, o) (ap (λ (z : List ℕ). b ∷ z) h.bytes);
+      taken = rw (encode-more (suc m) v r, y, d) (ap suc h.taken);
+      small = omega (arith, h.small, pow-suc 128 m);
       some = λ p. omega arith;
     }
 
@@ -107,7 +107,7 @@ written-read (b ∷ bs) m i v n e a q =
     groups-cases i b bs (λ f. f ≡ whole v n → Written (b ∷ bs) m i v n)
     (λ w j h. absurd (faulty-whole h))
     (λ j l h. written-last b bs m i v n e j l h)
-    (λ j l k h. written-step b bs m i v n e k l (a .each 0) (λ p g t e' q'. written-read bs p (suc i) g t e' (record { each = λ x. a .each (suc x) }) q') (groups (suc i) bs) refl h)
+    (λ j l k h. written-step b bs m i v n e k l (a.each 0) (λ p g t e' q'. written-read bs p (suc i) g t e' (record { each = λ x. a.each (suc x) }) q') (groups (suc i) bs) refl h)
     q
 
 -- ---- THE ROUND TRIPS
@@ -125,10 +125,10 @@ pub record Found (s : List ℕ) (at v next : ℕ) : Type 0 where
   pub small : v < 2 ^ 64
 
 pub fault-value : {v n w p : ℕ} → Fault w p ≡ Value v n → ⊥
-fault-value h = let z : _≡_ {A = ℕ} 0 1 = cc in omega arith
+fault-value h = let z : ◌≡◌ {A = ℕ} 0 1 = cc in omega arith
 
 bytes-drop : (s : List ℕ) (at : ℕ) → AreBytes s → AreBytes (drop at s)
-bytes-drop s at h = record { each = λ i. rw (getD-drop at s i 0) (h .each (at + i)) }
+bytes-drop s at h = record { each = λ i. rw (get_or-drop at s i 0) (h.each (at + i)) }
 
 -- what reads as v is v's bytes and no others, and v is below 2 ^ 64
 pub write-after-read : (s : List ℕ) (at v next : ℕ) → AreBytes s → numberAt s at ≡ Value v next → Found s at v next
@@ -142,7 +142,7 @@ write-after-read s at v next a h = go (groups 0 (drop at s)) refl h
         let j : at + n ≡ next = cc in
         let r : Written (drop at s) 9 0 x n = written-read (drop at s) 9 0 x n refl (bytes-drop s at a) e in
         record {
-          bytes = rw (← i, ← j) (r .bytes ∙ ap (λ (l : List ℕ). encode x ++ l) (drop-drop n at s));
-          after = rw (← i, ← j) (ap (λ (k : ℕ). at + k) (r .taken));
-          small = rw (← i) (r .small);
+          bytes = rw (← i, ← j) (r.bytes ∙ ap (λ (l : List ℕ). encode x ++ l) (drop-drop n at s));
+          after = rw (← i, ← j) (ap (λ (k : ℕ). at + k) r.taken);
+          small = rw (← i) r.small;
         }

@@ -1,19 +1,19 @@
 -- A number is ten bytes at most, and reading one looks at no eleventh.
-use Prim.Native.Nat.{ℕ, zero, suc, _+_, _-_, _/_, _≤_}
-use mathlib.Core.List.{List, [], _∷_}
-use mathlib.Core.Path.{_≡_, sym, ap, _∙_}
-use native.Mathlib.Decide.{decLt}
+use Prim.Native.Nat.{ℕ, zero, suc, ◌+◌, ◌-◌, ◌/◌, ◌≤◌}
+use mathlib.Core.List.{List, [], ◌∷◌}
+use mathlib.Core.Path.{◌≡◌, sym, ap, ◌∙◌}
+use native.Mathlib.Decide.{dec_lt}
 use native.Mathlib.Omega.{arith}
 use lib.ListN.{length, take, drop}
 use lib.Seq.{take-nil}
-use Rattle·numbers·specs.specs.Numbers.{encodeIn, encode, Form, more, groups, placed, numberAt}
-use Rattle·numbers·proofs.proofs.Groups.{groups-bad, groups-last, groups-more, groups-cases, encode-last, encode-more}
+use Rattle.numbers.specs.Numbers.{encodeIn, encode, Form, more, groups, placed, numberAt}
+use Rattle.numbers.proofs.Groups.{groups-bad, groups-last, groups-more, groups-cases, encode-last, encode-more}
 
 encode-few : (m v : ℕ) → length (encodeIn m v) ≤ m
 unfolding encodeIn
 encode-few zero v = omega arith
 encode-few (suc m) v =
-    elim (decLt v 128) [
+    elim (dec_lt v 128) [
       | yes l ↦ rw (encode-last m v l) (omega arith)
       | no l ↦
           let k : 128 ≤ v = omega arith in

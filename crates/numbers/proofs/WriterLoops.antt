@@ -1,14 +1,14 @@
 -- The loops that count and put a number's bytes: what is still to be counted or put is a shorter number's bytes.
-use Prim.Native.Nat.{ℕ, zero, suc, _+_, _*_, _/_, _%_, _^_, _<_, _≤_}
+use Prim.Native.Nat.{ℕ, zero, suc, ◌+◌, ◌*◌, ◌/◌, ◌%◌, ◌^◌, ◌<◌, ◌≤◌}
 use mathlib.Core.List.{List, []}
-use mathlib.Core.Path.{_≡_, refl, ap}
+use mathlib.Core.Path.{◌≡◌, refl, ap}
 use native.Mathlib.Nat.{pow-suc, pow-zero}
 use native.Mathlib.Omega.{arith}
 use lib.ListN.{length, set}
-use Rattle·lent.specs.Lent.{Put}
-use Rattle·lent.proofs.Putting.{put-one, Left, left-first, left-length, left-fits, left-step, left-done}
-use Rattle·numbers·specs.specs.Numbers.{encodeIn, encode}
-use Rattle·numbers·proofs.proofs.Groups.{encode-last, encode-more, encode-some}
+use Rattle.lent.specs.Lent.{Put}
+use Rattle.lent.proofs.Putting.{put-one, Left, left-first, left-fits, left-step, left-done}
+use Rattle.numbers.specs.Numbers.{encodeIn, encode}
+use Rattle.numbers.proofs.Groups.{encode-last, encode-more, encode-some}
 
 -- n bytes of v are counted, and those of rest are left
 pub record Counting (v rest n : ℕ) : Type 0 where
@@ -28,10 +28,10 @@ counting-next v rest n (suc m) f s e h =
 
 module _ {v rest n : ℕ} (c : Counting v rest n) where
   pub counting-step : 128 ≤ rest → Counting v (rest / 128) (n + 1)
-  counting-step h = counting-next v rest n (c .m) (c .few) (c .small) (c .count) h
+  counting-step h = counting-next v rest n c.m c.few c.small c.count h
 
   pub counting-done : rest < 128 → n + 1 ≡ length (encode v)
-  counting-done h = omega (arith, c .count, ap length (encode-last (c .m) rest h))
+  counting-done h = omega (arith, c.count, ap length (encode-last c.m rest h))
 
 -- of v's bytes, those of rest are still to be put, from place on
 pub record Writing (old : List ℕ) (at v : ℕ) (out : List ℕ) (rest place : ℕ) : Type 0 where
@@ -54,15 +54,12 @@ writing-next {out = out} rest {place} (suc m) s g h l =
     }
 
 module _ {old : List ℕ} {at v : ℕ} {out : List ℕ} {rest place : ℕ} (c : Writing old at v out rest place) where
-  pub writing-length : length out ≡ length old
-  writing-length = left-length (c .left)
-
   -- there is room for the byte at the place
   pub writing-room : place < length out
-  writing-room = omega (arith, left-fits (c .left), encode-some (c .m) rest)
+  writing-room = omega (arith, left-fits c.left, encode-some c.m rest)
 
   pub writing-step : {b : ℕ} → 128 ≤ rest → b ≡ 128 + rest % 128 → Writing old at v (set out place b) (rest / 128) (place + 1)
-  writing-step h e = rw e (writing-next rest (c .m) (c .small) (c .left) h writing-room)
+  writing-step h e = rw e (writing-next rest c.m c.small c.left h writing-room)
 
   pub writing-done : {b : ℕ} → rest < 128 → b ≡ rest → Put old at (encode v) (place + 1) (set out place b)
-  writing-done h e = rw e (left-done (left-step [] (c .left) (encode-last (c .m) rest h) (put-one out place rest writing-room)) refl)
+  writing-done h e = rw e (left-done (left-step [] c.left (encode-last c.m rest h) (put-one out place rest writing-room)) refl)

@@ -4,20 +4,17 @@
 --   After f us g            what is left of a format behind some numbers that it takes
 --   StoppedBy s w place f   why reading a format stops at a place, with the refusal w
 --   Stops f s at w place    reading from a place on stops there, and all numbers before it are right (`first-fault`)
-use Prim.Native.Nat.{ℕ, _+_, _^_, _<_, _≤_}
-use mathlib.Core.List.{List, [], _∷_, _++_}
-use mathlib.Core.Path.{_≡_}
-use lib.ListN.{length, drop, getD}
-use Rattle·verdict.specs.declared.Verdict.{Verdict}
-use Rattle·verdict.specs.declared.Verdict.the-variants.{Fine, Against}
-use Rattle·numbers·specs.specs.declared.Number.the-variants.{Value, Fault}
-use Rattle·numbers·specs.specs.Numbers.{numberAt}
-use Rattle·numbers·specs.specs.Format.{Format, ended, item, gate, encodeAll}
+use Rattle.std.specs.Prelude.{ℕ, ◌+◌, ◌^◌, ◌<◌, ◌≤◌, List, [], ◌∷◌, ◌++◌, ◌≡◌, length, drop, get_or}
+use Rattle.verdict.specs.declared.Verdict.{Verdict}
+use Rattle.verdict.specs.declared.Verdict.TheVariants.{Fine, Against}
+use Rattle.numbers.specs.declared.Number.TheVariants.{Value, Fault}
+use Rattle.numbers.specs.Numbers.{numberAt}
+use Rattle.numbers.specs.Format.{Format, ended, item, gate, encodeAll}
 
 -- fewer than ten bytes are left, from byte number i on, and each says that another follows
 pub record EndsEarly (i : ℕ) (bs : List ℕ) : Type 0 where
   pub few : i + length bs < 10
-  pub go-on : (j : ℕ) → j < length bs → 128 ≤ getD bs j 0
+  pub go-on : (j : ℕ) → j < length bs → 128 ≤ get_or bs j 0
 
 -- a byte that the scope speaks against: a group of 0 after another group, or a tenth byte other than 01
 pub data BadByte : ℕ → ℕ → Type 0 where
@@ -29,8 +26,8 @@ pub record BadlyWritten (i : ℕ) (bs : List ℕ) : Type 0 where
   pub j : ℕ
   pub there : j < length bs
   pub among : i + j < 10
-  pub go-on : (m : ℕ) → m < j → 128 ≤ getD bs m 0
-  pub bad : BadByte (i + j) (getD bs j 0)
+  pub go-on : (m : ℕ) → m < j → 128 ≤ get_or bs m 0
+  pub bad : BadByte (i + j) (get_or bs j 0)
 
 -- what is left of a format behind some numbers that it takes
 pub data After : Format → List ℕ → Format → Type 0 where

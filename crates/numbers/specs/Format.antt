@@ -6,17 +6,12 @@
 --   encodeAll vs        the bytes of some numbers, one after the other
 --   Fits f vs           the numbers are what the format asks for
 -- A file is accepted exactly where it is `encodeAll vs` of numbers that fit: `file-read-after-write`, `file-write-after-read`.
-use Prim.Native.Nat.{ℕ, zero, suc, _^_, _<_}
-use mathlib.Core.Bool.{cond}
-use mathlib.Core.List.{List, [], _∷_, _++_}
-use mathlib.Core.Path.{_≡_}
-use lib.Dec.{ltb}
-use lib.ListN.{length}
-use Rattle·verdict.specs.declared.Verdict.{Verdict}
-use Rattle·verdict.specs.declared.Verdict.the-variants.{Fine, Against}
-use Rattle·numbers·specs.specs.declared.Number.{Number}
-use Rattle·numbers·specs.specs.declared.Number.the-variants.{Value, Fault}
-use Rattle·numbers·specs.specs.Numbers.{encode, numberAt}
+use Rattle.std.specs.Prelude.{ℕ, zero, suc, ◌^◌, ◌<◌, cond, List, [], ◌∷◌, ◌++◌, ◌≡◌, ltb, length}
+use Rattle.verdict.specs.declared.Verdict.{Verdict}
+use Rattle.verdict.specs.declared.Verdict.TheVariants.{Fine, Against}
+use Rattle.numbers.specs.declared.Number.{Number}
+use Rattle.numbers.specs.declared.Number.TheVariants.{Value, Fault}
+use Rattle.numbers.specs.Numbers.{encode, numberAt}
 
 -- nothing more; a number held to a test, and what follows it; a verdict given here, before the next number is looked at
 pub data Format : Type 0 where

@@ -4,16 +4,12 @@
 --   groups i bytes     what the bytes of a number are from its byte number i on: a `whole` value, or a `faulty` number
 --   numberAt bytes at  what reading at a place finds (`read-after-write`, `write-after-read`, `cut-exactly`, `long-exactly`)
 --   AreBytes bytes     each of them is a byte
-use Prim.Native.Nat.{ℕ, zero, suc, _+_, _*_, _-_, _/_, _%_, _<_}
-use mathlib.Core.Bool.{cond, not, _||_}
-use mathlib.Core.List.{List, [], _∷_}
-use lib.Dec.{ltb, eqb}
-use lib.ListN.{drop, getD}
-use Rattle·verdict.specs.declared.Verdict.{Verdict}
-use Rattle·verdict.specs.declared.Verdict.the-variants.{Fine, Against}
-use Rattle·verdict.specs.Tests.{need, inOrder}
-use Rattle·numbers·specs.specs.declared.Number.{Number}
-use Rattle·numbers·specs.specs.declared.Number.the-variants.{Value, Fault}
+use Rattle.std.specs.Prelude.{ℕ, zero, suc, ◌+◌, ◌*◌, ◌-◌, ◌/◌, ◌%◌, ◌<◌, cond, not, ◌||◌, List, [], ◌∷◌, ltb, eqb, drop, get_or}
+use Rattle.verdict.specs.declared.Verdict.{Verdict}
+use Rattle.verdict.specs.declared.Verdict.TheVariants.{Fine, Against}
+use Rattle.verdict.specs.Tests.{need, inOrder}
+use Rattle.numbers.specs.declared.Number.{Number}
+use Rattle.numbers.specs.declared.Number.TheVariants.{Value, Fault}
 
 -- groups of seven bits, lowest group first; bit 7 of a byte is set when another group follows
 unfoldable pub encodeIn : ℕ → ℕ → List ℕ
@@ -56,4 +52,4 @@ unfoldable pub numberAt : List ℕ → ℕ → Number
 numberAt bytes at = placed at (groups 0 (drop at bytes))
 
 pub record AreBytes (bytes : List ℕ) : Type 0 where
-  pub each : (i : ℕ) → getD bytes i 0 < 256
+  pub each : (i : ℕ) → get_or bytes i 0 < 256

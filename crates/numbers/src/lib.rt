@@ -1,29 +1,30 @@
 // Numbers in groups of seven bits: read at a place, written at a place, one or a list of them.
-use verdict::Verdict;
-use verdict::need;
-ghost use mathlib.Core.Path.{_≡_};
-ghost use Prim.Native.Nat.{_+_, _≤_, _<_};
-ghost use lib.ListN.{length};
-ghost use Rattle·lent.specs.Lent.{before, Puts};
-ghost use Rattle·numbers·specs.specs.Numbers.{numberAt, byteTest, encode};
-ghost use Rattle·numbers·specs.specs.Format as Format;
-ghost use Rattle·numbers·specs.specs.Format.{encodeAll};
+#![tactic(auto)]
+
+ghost use Rattle.std.specs.Prelude.{◌≡◌, ◌+◌, ◌≤◌, ◌<◌, length};
+ghost use Rattle.lent.specs.Lent.{Put};
+ghost use Rattle.numbers.specs.Numbers.{numberAt, byteTest, encode};
+ghost use Rattle.numbers.specs.Format as Format;
+ghost use Rattle.numbers.specs.Format.{encodeAll};
+
+use verdict::{Verdict, need};
 
 // What stands at a place: a value and the place after it, or a refusal's number and the first byte of the number at fault.
+#[derive(Drop)]
 pub enum Number {
     Value(u64, usize),
     Fault(u8, usize),
 }
 
 fn wide(x: u8) -> u64
-    ensures { λ r. ⌜ r ≡ x ⌝ }
+    ensures { result ≡ x }
 {
     x as u64
 }
 
 // Byte number i of a number, counted from 0.
 fn byte_test(i: usize, b: u64) -> Verdict
-    ensures { λ r. ⌜ r ≡ byteTest i b ⌝ }
+    ensures { result ≡ byteTest i b }
 {
     let shortest = need((i == 0) | (b != 0), 21);
     let Verdict::Fine = shortest else {
@@ -33,7 +34,7 @@ fn byte_test(i: usize, b: u64) -> Verdict
 }
 
 pub fn read(bytes: &[u8], at: usize) -> Number
-    ensures { λ r. ⌜ r ≡ numberAt (before bytes) at ⌝ }
+    ensures { result ≡ numberAt bytes.now at }
 {
     let mut value: u64 = 0;
     let mut weight: u64 = 1;
@@ -60,7 +61,7 @@ pub fn read(bytes: &[u8], at: usize) -> Number
 
 // A number that was read at a place, after the verdict on its range.
 pub fn ruled(verdict: Verdict, at: usize, v: u64, next: usize) -> Number
-    ensures { λ r. ⌜ r ≡ Format.ruled verdict at v next ⌝ }
+    ensures { result ≡ Format.ruled verdict at v next }
 {
     match verdict {
         Verdict::Fine => Number::Value(v, next),
@@ -70,7 +71,7 @@ pub fn ruled(verdict: Verdict, at: usize, v: u64, next: usize) -> Number
 
 // How many bytes v takes.
 pub fn size(v: u64) -> usize
-    ensures { λ r. ⌜ r ≡ length (encode v) ⌝ }
+    ensures { result ≡ length (encode v) }
 {
     let mut rest = v;
     let mut n: usize = 0;
@@ -82,16 +83,16 @@ pub fn size(v: u64) -> usize
 }
 
 fn low(x: u64) -> u8
-    requires { ⌜ x < 256 ⌝ }
-    ensures { λ r. ⌜ r ≡ x ⌝ }
+    requires { x < 256 }
+    ensures { result ≡ x }
 {
     x as u8
 }
 
 // Puts v's bytes from a place on, and returns the place after them.
 pub fn write(out: &mut [u8], at: usize, v: u64) -> usize
-    requires { ⌜ at + length (encode v) ≤ length (now out) ⌝ }
-    ensures { λ r. ⌜ Puts out at (encode v) r ⌝ }
+    requires { at + length (encode v) ≤ length out.old }
+    ensures { Put out.old at (encode v) result out.new }
 {
     let mut rest = v;
     let mut place = at;
@@ -106,7 +107,7 @@ pub fn write(out: &mut [u8], at: usize, v: u64) -> usize
 
 // How many bytes a list of numbers takes.
 pub fn size_all(list: &[u64]) -> usize
-    ensures { λ r. ⌜ r ≡ length (encodeAll (before list)) ⌝ }
+    ensures { result ≡ length (encodeAll list.now) }
 {
     let mut total: usize = 0;
     let mut i: usize = 0;
@@ -119,8 +120,8 @@ pub fn size_all(list: &[u64]) -> usize
 
 // Puts the bytes of a list of numbers from a place on, and returns the place after them.
 pub fn write_all(out: &mut [u8], at: usize, list: &[u64]) -> usize
-    requires { ⌜ at + length (encodeAll (now list)) ≤ length (now out) ⌝ }
-    ensures { λ r. ⌜ Puts out at (encodeAll (before list)) r ⌝ }
+    requires { at + length (encodeAll list.now) ≤ length out.old }
+    ensures { Put out.old at (encodeAll list.now) result out.new }
 {
     let mut place = at;
     let mut i: usize = 0;

@@ -1,13 +1,13 @@
 -- What the loop of `reached` keeps: the letters read so far lead from the set to where it stands. Assumes nothing.
-use mathlib.Core.Path.{_≡_, refl, sym, _∙_}
+use mathlib.Core.Path.{◌≡◌, refl, sym, ◌∙◌}
 use mathlib.Core.List.{List}
-use Prim.Native.Nat.{ℕ, _+_, _≤_, _<_}
+use Prim.Native.Nat.{ℕ, ◌+◌, ◌≤◌, ◌<◌}
 use native.Mathlib.Numerals.{add-one}
 use native.Mathlib.Omega.{arith}
-use lib.ListN.{length, getD, drop}
+use lib.ListN.{length, get_or, drop}
 use lib.Seq.{drop-cons, drop-length}
-use Rattle·pattern·specs.specs.Pattern.{patternOf}
-use Rattle·pattern·specs.specs.Language.{next, reach}
+use Rattle.pattern.specs.Pattern.{patternOf}
+use Rattle.pattern.specs.Language.{next, reach}
 
 -- from the set by the whole word is from here by the rest of it
 pub record Following (n k : ℕ) (rows : List ℕ) (set : ℕ) (word : List ℕ) (at i : ℕ) : Type 0 where
@@ -15,17 +15,14 @@ pub record Following (n k : ℕ) (rows : List ℕ) (set : ℕ) (word : List ℕ)
   pub rest : (finals : ℕ) → reach (patternOf n k finals rows) set word ≡ reach (patternOf n k finals rows) at (drop i word)
 
 module _ {n k : ℕ} {rows : List ℕ} {set : ℕ} {word : List ℕ} where
-  pub following-first : Following n k rows set word set 0
-  following-first = record { bound = omega arith; rest = λ finals. refl }
-
-  pub following-more : {at at′ i : ℕ} → i < length word → Following n k rows set word at i
-      → ((finals : ℕ) → at′ ≡ next (patternOf n k finals rows) at (getD word i 0)) → Following n k rows set word at′ (i + 1)
+  pub following-more : {at at' i : ℕ} → i < length word → Following n k rows set word at i
+      → ((finals : ℕ) → at' ≡ next (patternOf n k finals rows) at (get_or word i 0)) → Following n k rows set word at' (i + 1)
   unfolding reach
-  following-more {at} {at′} {i} l f e = record { bound = omega arith; rest = λ finals. f .rest finals ∙ rw (drop-cons word i 0 l, add-one, e finals) refl }
+  following-more {at} {at'} {i} l f e = record { bound = omega arith; rest = λ finals. f.rest finals ∙ rw (drop-cons word i 0 l, add-one, e finals) refl }
 
   pub following-done : {at i : ℕ} → length word ≤ i → Following n k rows set word at i
       → (finals : ℕ) → at ≡ reach (patternOf n k finals rows) set word
   unfolding reach
   following-done {at} {i} l f finals =
       let whole : i ≡ length word = omega arith in
-      sym (f .rest finals ∙ rw (whole, drop-length word) refl)
+      sym (f.rest finals ∙ rw (whole, drop-length word) refl)

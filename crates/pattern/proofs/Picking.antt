@@ -1,27 +1,27 @@
 -- What the loop of `next` keeps: it goes through the members of a set, lowest first. Assumes nothing.
-use mathlib.Core.Path.{_≡_, refl, sym, ap, _∙_}
-use mathlib.Core.Logic.{⊎-elim}
-use Prim.Native.Nat.{ℕ, zero, suc, _*_, _%_, _^_, _≤_, _<_}
-use native.Mathlib.Nat.{one-mul, zero-mul, zero-div, eq-or-lt-of-le, le-of-suc-le-suc}
-use native.Mathlib.Decide.{decLt}
+use mathlib.Core.Path.{◌≡◌, refl, sym, ap, ◌∙◌}
+use mathlib.Core.Logic.{⊎_elim}
+use Prim.Native.Nat.{ℕ, zero, suc, ◌*◌, ◌%◌, ◌^◌, ◌≤◌, ◌<◌}
+use native.Mathlib.Nat.{one-mul, zero-mul, zero-div, eq-or-lt_of_le, le_of_suc-le-suc}
+use native.Mathlib.Decide.{dec_lt}
 use native.Mathlib.Omega.{arith}
-use lib.Bits.{bitOr}
-use Rattle·sets.specs.Sets.{bit}
-use Rattle·sets.proofs.Bits.{union-empty}
-use Rattle·sets.proofs.Lowest.{Lowest}
-use Rattle·pattern·specs.specs.Language.{unionBelow}
+use lib.Bits.{bit_or}
+use Rattle.sets.specs.Sets.{bit}
+use Rattle.sets.proofs.Bits.{union-empty}
+use Rattle.sets.proofs.Lowest.{Lowest}
+use Rattle.pattern.specs.Language.{unionBelow}
 
 -- states that are not in the set add nothing
 union-gap : (f : ℕ → ℕ) (set t u : ℕ) → t ≤ u → ((s : ℕ) → t ≤ s → s < u → bit set s ≡ 0) → unionBelow f set t ≡ unionBelow f set u
 unfolding unionBelow
 union-gap f set t zero h g = let z : t ≡ 0 = omega arith in ap (unionBelow f set) z
 union-gap f set t (suc u) h g =
-    ⊎-elim
+    ⊎_elim
     (λ (z : t ≡ suc u). ap (unionBelow f set) z)
-    (λ (b : t < suc u). union-gap f set t u (le-of-suc-le-suc b) (λ s l k. g s l (omega arith)) ∙ add u (g u (le-of-suc-le-suc b) (omega arith)))
-    (eq-or-lt-of-le h)
+    (λ (b : t < suc u). union-gap f set t u (le_of_suc-le-suc b) (λ s l k. g s l (omega arith)) ∙ add u (g u (le_of_suc-le-suc b) (omega arith)))
+    (eq-or-lt_of_le h)
   where
-    add : (u : ℕ) → bit set u ≡ 0 → unionBelow f set u ≡ bitOr (unionBelow f set u) (bit set u * f u)
+    add : (u : ℕ) → bit set u ≡ 0 → unionBelow f set u ≡ bit_or (unionBelow f set u) (bit set u * f u)
     add u z = rw (z, zero-mul, union-empty)
 
 -- the members below `upto` are dealt with; `left` has the others
@@ -40,32 +40,32 @@ module _ {f : ℕ → ℕ} {n set : ℕ} where
 
   module _ {m left : ℕ} (p : Picking f n set m left) where
     -- nothing of the set is left below u
-    finish : (u : ℕ) → p .upto ≤ u → ((s : ℕ) → s < u → bit left s ≡ 0) → m ≡ unionBelow f set u
-    finish u h z = p .sum ∙ union-gap f set (p .upto) u h (λ s l b. sym (p .others s l) ∙ z s b)
+    finish : (u : ℕ) → p.upto ≤ u → ((s : ℕ) → s < u → bit left s ≡ 0) → m ≡ unionBelow f set u
+    finish u h z = p.sum ∙ union-gap f set p.upto u h (λ s l b. sym (p.others s l) ∙ z s b)
 
     pub picking-done : left ≡ 0 → m ≡ unionBelow f set n
-    picking-done e = finish n (p .within) (λ s l. ap (λ (x : ℕ). bit x s) e ∙ ap (λ (x : ℕ). x % 2) (zero-div (2 ^ s)))
+    picking-done e = finish n p.within (λ s l. ap (λ (x : ℕ). bit x s) e ∙ ap (λ (x : ℕ). x % 2) (zero-div (2 ^ s)))
 
     pub picking-past : {s r : ℕ} → Lowest left s r → n ≤ s → m ≡ unionBelow f set n
-    picking-past w h = finish n (p .within) (λ i l. w .lower i (omega arith))
+    picking-past w h = finish n p.within (λ i l. w.lower i (omega arith))
 
-    pub picking-next : {s r m′ : ℕ} → Lowest left s r → s < n → m′ ≡ bitOr m (f s) → Picking f n set m′ r
+    pub picking-next : {s r m' : ℕ} → Lowest left s r → s < n → m' ≡ bit_or m (f s) → Picking f n set m' r
     unfolding unionBelow
-    picking-next {s} {r} {m′} w h e =
+    picking-next {s} {r} {m'} w h e =
         record {
           upto = suc s;
           within = h;
-          others = λ i l. w .others i l ∙ p .others i (omega (arith, from));
-          gone = λ i l. w .gone i (le-of-suc-le-suc l);
+          others = λ i l. w.others i l ∙ p.others i (omega (arith, from));
+          gone = λ i l. w.gone i (le_of_suc-le-suc l);
           sum =
-              let one : bit set s ≡ 1 = sym (p .others s from) ∙ w .is in
-              rw (one, one-mul, ← finish s from (w .lower)) e;
-          fits = omega (arith, p .fits, w .less);
+              let one : bit set s ≡ 1 = sym (p.others s from) ∙ w.is in
+              rw (one, one-mul, ← finish s from w.lower) e;
+          fits = omega (arith, p.fits, w.less);
         }
       where
-        from : p .upto ≤ s
-        from = pick (decLt s (p .upto))
+        from : p.upto ≤ s
+        from = pick (dec_lt s p.upto)
           where
-            pick : Dec (s < p .upto) → p .upto ≤ s
-            pick (yes b) = absurd (let z = p .gone s b in let o = w .is in omega arith)
+            pick : Dec (s < p.upto) → p.upto ≤ s
+            pick (yes b) = absurd (let z = p.gone s b in let o = w.is in omega arith)
             pick (no b) = omega arith

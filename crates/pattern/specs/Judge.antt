@@ -5,24 +5,19 @@
 --   Judgeable     a question that is not refused (`judge-fine`)
 --   judgeLines    the lines of the refusals: `judgeTest` goes by them (`judge-lines`)
 --   HonestJudge   what an answer means to a host that sees its number (`judge-honest`)
-use mathlib.Core.Path.{_≡_}
-use mathlib.Core.Logic.{_↔_}
-use mathlib.Core.Bool.{Bool, true, false}
-use mathlib.Core.List.{List, [], _∷_}
-use Prim.Native.Nat.{ℕ, _≤_}
-use lib.Dec.{ltb}
-use Rattle·verdict.specs.declared.Verdict.{Verdict}
-use Rattle·verdict.specs.declared.Verdict.the-variants.{Fine, Against}
-use Rattle·verdict.specs.Tests.{need, inOrder, each}
-use Rattle·verdict.specs.Lines.{Lines, Applies}
-use Rattle·verdict.specs.Lines.Lines.{none, line}
-use Rattle·sets.specs.Sets.{Good}
-use Rattle·pattern·specs.specs.Pattern.{Pattern, Valid}
-use Rattle·pattern·specs.specs.Tests.{patternTest, setTest}
-use Rattle·pattern·specs.specs.Refusals.{MasksGood, shapeLines}
-use Rattle·pattern·specs.specs.Language.{accepts, Over}
-use Rattle·pattern·specs.specs.declared.Judged.{Judged}
-use Rattle·pattern·specs.specs.declared.Judged.the-variants.{Accept, Reject, Refused}
+use Rattle.std.specs.Prelude.{◌≡◌, ◌↔◌, Bool, true, false, List, [], ◌∷◌, ℕ, ◌≤◌, ltb}
+use Rattle.verdict.specs.declared.Verdict.{Verdict}
+use Rattle.verdict.specs.declared.Verdict.TheVariants.{Fine, Against}
+use Rattle.verdict.specs.Tests.{need, inOrder, each}
+use Rattle.verdict.specs.Lines.{Lines, Applies}
+use Rattle.verdict.specs.Lines.Lines.{none, line}
+use Rattle.sets.specs.Sets.{Good}
+use Rattle.pattern.specs.Pattern.{Pattern, Valid}
+use Rattle.pattern.specs.Tests.{patternTest, setTest}
+use Rattle.pattern.specs.Refusals.{MasksGood, shapeLines}
+use Rattle.pattern.specs.Language.{accepts, Over}
+use Rattle.pattern.specs.declared.Judged.{Judged}
+use Rattle.pattern.specs.declared.Judged.TheVariants.{Accept, Reject, Refused}
 
 -- 15 BAD-LETTER: the letter is below k
 unfoldable pub letterTest : ℕ → ℕ → Verdict
@@ -30,7 +25,7 @@ letterTest k a = need (ltb a k) 15
 
 -- 10, 11, 12, 15
 unfoldable pub judgeTest : Pattern → ℕ → List ℕ → Verdict
-judgeTest P set sequence = inOrder (patternTest P ∷ setTest (P .states) set ∷ each (letterTest (P .letters)) sequence ∷ [])
+judgeTest P set sequence = inOrder (patternTest P ∷ setTest P.states set ∷ each (letterTest P.letters) sequence ∷ [])
 
 abbrev pub byLanguage : Bool → Judged
 byLanguage true = Accept
@@ -59,11 +54,11 @@ IsRefused (Refused w) = Unit {0}
 
 pub record Judgeable (P : Pattern) (set : ℕ) (sequence : List ℕ) : Type 0 where
   pub valid : Valid P
-  pub set-good : Good (P .states) set
-  pub letters-below : Over (P .letters) sequence
+  pub set-good : Good P.states set
+  pub letters-below : Over P.letters sequence
 
 abbrev pub judgeLines : Pattern → ℕ → List ℕ → Lines
-judgeLines P set sequence = shapeLines P (line 12 (MasksGood P × Good (P .states) set) (line 15 (Over (P .letters) sequence) none))
+judgeLines P set sequence = shapeLines P (line 12 (MasksGood P × Good P.states set) (line 15 (Over P.letters sequence) none))
 
 -- 3 ACCEPT and 4 REJECT exactly where nothing is refused and the language says so; a refusal, 10 and up, exactly where a line applies, by its number
 pub record HonestJudge (P : Pattern) (set : ℕ) (sequence : List ℕ) (j : Judged) : Type 0 where

@@ -4,32 +4,29 @@
 --   accepts P set w  that set meets the finals: the word is accepted
 --   Over k w         an event sequence: a word of letters below k
 --   SameLanguage     every event sequence is accepted from both sets or from neither
-use mathlib.Core.Path.{_≡_}
-use mathlib.Core.Bool.{Bool}
-use mathlib.Core.List.{List, [], _∷_}
-use Prim.Native.Nat.{ℕ, zero, suc, _*_, _<_}
-use lib.Bits.{bitOr}
-use Rattle·sets.specs.Sets.{bit, meets}
-use Rattle·pattern·specs.specs.Pattern.{Pattern, row}
+use Rattle.std.specs.Prelude.{◌≡◌, Bool, List, [], ◌∷◌, ℕ, zero, suc, ◌*◌, ◌<◌}
+use Rattle.std.specs.Int.Bits.{bit_or}
+use Rattle.sets.specs.Sets.{bit, meets}
+use Rattle.pattern.specs.Pattern.{Pattern, row}
 
 -- the union of the sets f s over the members s of a set, those below n
 unfoldable pub unionBelow : (ℕ → ℕ) → ℕ → ℕ → ℕ
 unionBelow f set zero = 0
-unionBelow f set (suc s) = bitOr (unionBelow f set s) (bit set s * f s)
+unionBelow f set (suc s) = bit_or (unionBelow f set s) (bit set s * f s)
 
 unfoldable pub next : Pattern → ℕ → ℕ → ℕ
-next P set a = unionBelow (λ s. row P s a) set (P .states)
+next P set a = unionBelow (λ s. row P s a) set P.states
 
 unfoldable pub reach : Pattern → ℕ → List ℕ → ℕ
 reach P set [] = set
 reach P set (a ∷ w) = reach P (next P set a) w
 
 unfoldable pub accepts : Pattern → ℕ → List ℕ → Bool
-accepts P set w = meets (reach P set w) (P .finals)
+accepts P set w = meets (reach P set w) P.finals
 
 pub data Over (k : ℕ) : List ℕ → Type 0 where
   empty : Over k []
   letter : {a : ℕ} {w : List ℕ} → a < k → Over k w → Over k (a ∷ w)
 
 pub record SameLanguage (P : Pattern) (x y : ℕ) : Type 0 where
-  pub words : (w : List ℕ) → Over (P .letters) w → accepts P x w ≡ accepts P y w
+  pub words : (w : List ℕ) → Over P.letters w → accepts P x w ≡ accepts P y w

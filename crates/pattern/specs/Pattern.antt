@@ -1,10 +1,6 @@
 -- A pattern: n states, k letters, the final states, and n * k rows. Row s * k + a is the set reached from state s by letter a.
-use mathlib.Core.Path.{_≡_}
-use mathlib.Core.List.{List}
-use Prim.Native.Nat.{ℕ, _+_, _*_, _≤_, _<_}
-use lib.ListN.{length, getD}
-use Rattle·lent.specs.Lent.{Slice, before}
-use Rattle·sets.specs.Sets.{Good}
+use Rattle.std.specs.Prelude.{◌≡◌, List, ℕ, ◌+◌, ◌*◌, ◌≤◌, ◌<◌, length, get_or}
+use Rattle.sets.specs.Sets.{Good}
 
 pub record Pattern : Type 0 where
   pub states : ℕ
@@ -15,13 +11,9 @@ pub record Pattern : Type 0 where
 abbrev pub patternOf : ℕ → ℕ → ℕ → List ℕ → Pattern
 patternOf n k finals rows = record { states = n; letters = k; finals = finals; rows = rows }
 
--- the pattern of a call that is lent its rows
-abbrev pub patternIn : ℕ → ℕ → ℕ → Slice → Pattern
-patternIn n k finals rows = patternOf n k finals (before rows)
-
 -- the set reached from state s by letter a
 abbrev pub row : Pattern → ℕ → ℕ → ℕ
-row P s a = getD (P .rows) (s * P .letters + a) 0
+row P s a = get_or P.rows (s * P.letters + a) 0
 
 -- n from 1 to 64, k from 1 to 32
 pub record Sized (n k : ℕ) : Type 0 where
@@ -32,15 +24,15 @@ pub record Sized (n k : ℕ) : Type 0 where
 
 -- there are n * k rows
 abbrev pub Tabled : Pattern → Type 0
-Tabled P = length (P .rows) ≡ P .states * P .letters
+Tabled P = length P.rows ≡ P.states * P.letters
 
 -- every mask of a list is a set of n states
 abbrev pub AllGood : ℕ → List ℕ → Type 0
-AllGood n masks = (i : ℕ) → i < length masks → Good n (getD masks i 0)
+AllGood n masks = (i : ℕ) → i < length masks → Good n (get_or masks i 0)
 
 -- a pattern that no call refuses: in range, with n * k rows, and every mask a set of its states
 pub record Valid (P : Pattern) : Type 0 where
-  pub sized : Sized (P .states) (P .letters)
+  pub sized : Sized P.states P.letters
   pub tabled : Tabled P
-  pub finals-good : Good (P .states) (P .finals)
-  pub rows-good : AllGood (P .states) (P .rows)
+  pub finals-good : Good P.states P.finals
+  pub rows-good : AllGood P.states P.rows

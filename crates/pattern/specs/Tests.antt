@@ -1,12 +1,8 @@
 -- The tests of a pattern, each with the scope's number (§7). A call makes them in the order 10, 11, .., 12, with its own tests between.
-use mathlib.Core.Bool.{_&&_}
-use mathlib.Core.List.{[], _∷_}
-use Prim.Native.Nat.{ℕ, _*_, _^_}
-use lib.ListN.{length}
-use lib.Dec.{leb, ltb, eqb}
-use Rattle·verdict.specs.declared.Verdict.{Verdict}
-use Rattle·verdict.specs.Tests.{need, inOrder, each}
-use Rattle·pattern·specs.specs.Pattern.{Pattern}
+use Rattle.std.specs.Prelude.{◌&&◌, [], ◌∷◌, ℕ, ◌*◌, ◌^◌, length, leb, ltb, eqb}
+use Rattle.verdict.specs.declared.Verdict.{Verdict}
+use Rattle.verdict.specs.Tests.{need, inOrder, each}
+use Rattle.pattern.specs.Pattern.{Pattern}
 
 -- 10 BAD-SIZE: a number of states or letters is from 1 to the most allowed
 unfoldable pub sizeTest : ℕ → ℕ → Verdict
@@ -26,11 +22,11 @@ spaceTest places count = need (leb count places) 14
 
 -- 10 and 11, which every call looks at first
 unfoldable pub shapeTest : Pattern → Verdict
-shapeTest P = inOrder (sizeTest 64 (P .states) ∷ sizeTest 32 (P .letters) ∷ tableTest (P .states) (P .letters) (length (P .rows)) ∷ [])
+shapeTest P = inOrder (sizeTest 64 P.states ∷ sizeTest 32 P.letters ∷ tableTest P.states P.letters (length P.rows) ∷ [])
 
 -- 12 for the pattern's own masks: the finals and all rows, reachable or not
 unfoldable pub masksTest : Pattern → Verdict
-masksTest P = inOrder (setTest (P .states) (P .finals) ∷ each (setTest (P .states)) (P .rows) ∷ [])
+masksTest P = inOrder (setTest P.states P.finals ∷ each (setTest P.states) P.rows ∷ [])
 
 -- nothing is against a pattern exactly where it is `Valid` (the law `pattern-valid`)
 unfoldable pub patternTest : Pattern → Verdict

@@ -1,18 +1,22 @@
 // Patterns: their tests, their successor sets, and the judging of one sequence.
-ghost use mathlib.Core.Path.{_≡_};
-ghost use Prim.Native.Nat.{ℕ, _*_, _≤_, _<_};
-ghost use lib.ListN.{length};
-ghost use Rattle·lent.specs.Lent.{before};
-ghost use Rattle·verdict.specs.Tests.{each};
-ghost use Rattle·pattern·specs.specs.Pattern.{Sized, patternIn};
-ghost use Rattle·pattern·specs.specs.Tests.{sizeTest, tableTest, setTest, shapeTest, masksTest, patternTest};
-ghost use Rattle·pattern·specs.specs.Language.{reach, Over};
-ghost use Rattle·pattern·specs.specs.Language;
-ghost use Rattle·pattern·specs.specs.Judge.{letterTest, judgeTest, judged};
+#![tactic(auto)]
+
+ghost use Rattle.std.specs.Prelude.{◌≡◌, ℕ, ◌*◌, ◌≤◌, ◌<◌, length};
+ghost use Rattle.verdict.specs.Tests.{each};
+ghost use Rattle.pattern.specs.Pattern.{Sized, patternOf};
+ghost use Rattle.pattern.specs.Tests.{sizeTest, tableTest, setTest, shapeTest, masksTest, patternTest};
+ghost use Rattle.pattern.specs.Language.{reach, Over};
+ghost use Rattle.pattern.specs.Language;
+ghost use Rattle.pattern.specs.Judge.{letterTest, judgeTest, judged};
+
 use sets::States;
 use verdict::Verdict;
 
+// The bits of a mask: from so many states on, every mask is a set of states.
+const MASK_BITS: usize = 64;
+
 // What judging a sequence answers.
+#[derive(Drop)]
 pub enum Judged {
     Accept,
     Reject,
@@ -21,7 +25,7 @@ pub enum Judged {
 
 // BAD-SIZE: a number of states or letters.
 pub fn size_test(most: usize, v: usize) -> Verdict
-    ensures { λ r. ⌜ r ≡ sizeTest most v ⌝ }
+    ensures { result ≡ sizeTest most v }
 {
     if v < 1 {
         return Verdict::Against(10);
@@ -31,17 +35,17 @@ pub fn size_test(most: usize, v: usize) -> Verdict
 
 // BAD-TABLE: so many rows.
 fn table_test(states: usize, letters: usize, count: usize) -> Verdict
-    requires { ⌜ Sized states letters ⌝ }
-    ensures { λ r. ⌜ r ≡ tableTest states letters count ⌝ }
+    requires { Sized states letters }
+    ensures { result ≡ tableTest states letters count }
 {
     verdict::need(count == states * letters, 11)
 }
 
 // BAD-SET: one mask.
 pub fn set_test(states: usize, mask: u64) -> Verdict
-    ensures { λ r. ⌜ r ≡ setTest states mask ⌝ }
+    ensures { result ≡ setTest states mask }
 {
-    if 64 <= states {
+    if MASK_BITS <= states {
         return Verdict::Fine;
     }
     verdict::need(mask >> states == 0, 12)
@@ -49,7 +53,7 @@ pub fn set_test(states: usize, mask: u64) -> Verdict
 
 // BAD-SET: each mask of a list.
 pub fn sets_test(states: usize, masks: &[u64]) -> Verdict
-    ensures { λ r. ⌜ r ≡ each (setTest states) (before masks) ⌝ }
+    ensures { result ≡ each (setTest states) masks.now }
 {
     let mut i = 0;
     while i < masks.len() {
@@ -64,7 +68,7 @@ pub fn sets_test(states: usize, masks: &[u64]) -> Verdict
 
 // BAD-SIZE and BAD-TABLE, which every call looks at first.
 pub fn shape_test(states: usize, letters: usize, rows: &[u64]) -> Verdict
-    ensures { λ r. ⌜ ((finals : ℕ) → r ≡ shapeTest (patternIn states letters finals rows)) ⌝ }
+    ensures { (finals : ℕ) → result ≡ shapeTest (patternOf states letters finals rows.now) }
 {
     let size = size_test(64, states);
     let Verdict::Fine = size else {
@@ -79,7 +83,7 @@ pub fn shape_test(states: usize, letters: usize, rows: &[u64]) -> Verdict
 
 // BAD-SET for the pattern's own masks.
 pub fn masks_test(states: usize, finals: u64, rows: &[u64]) -> Verdict
-    ensures { λ r. ⌜ ((letters : ℕ) → r ≡ masksTest (patternIn states letters finals rows)) ⌝ }
+    ensures { (letters : ℕ) → result ≡ masksTest (patternOf states letters finals rows.now) }
 {
     let test = set_test(states, finals);
     let Verdict::Fine = test else {
@@ -90,7 +94,7 @@ pub fn masks_test(states: usize, finals: u64, rows: &[u64]) -> Verdict
 
 // Judges a pattern: what is against it, if anything.
 pub fn pattern_test(states: usize, letters: usize, finals: u64, rows: &[u64]) -> Verdict
-    ensures { λ r. ⌜ r ≡ patternTest (patternIn states letters finals rows) ⌝ }
+    ensures { result ≡ patternTest (patternOf states letters finals rows.now) }
 {
     let shape = shape_test(states, letters, rows);
     let Verdict::Fine = shape else {
@@ -101,10 +105,10 @@ pub fn pattern_test(states: usize, letters: usize, finals: u64, rows: &[u64]) ->
 
 // The set that `letter` takes `set` to.
 pub fn next(states: usize, letters: usize, rows: &[u64], set: u64, letter: usize) -> u64
-    requires { ⌜ states ≤ 64 ⌝ }
-    requires { ⌜ length (now rows) ≡ states * letters ⌝ }
-    requires { ⌜ letter < letters ⌝ }
-    ensures { λ r. ⌜ ((finals : ℕ) → r ≡ Language.next (patternIn states letters finals rows) set letter) ⌝ }
+    requires states_bound { states ≤ 64 }
+    requires rows_len { length rows.now ≡ states * letters }
+    requires letter_lt_letters { letter < letters }
+    ensures { (finals : ℕ) → result ≡ Language.next (patternOf states letters finals rows.now) set letter }
 {
     let none = States::empty();
     let mut reached = none.mask;
@@ -122,14 +126,14 @@ pub fn next(states: usize, letters: usize, rows: &[u64], set: u64, letter: usize
 
 // BAD-LETTER: one letter.
 fn letter_test(letters: usize, letter: u8) -> Verdict
-    ensures { λ r. ⌜ r ≡ letterTest letters letter ⌝ }
+    ensures { result ≡ letterTest letters letter }
 {
     verdict::need(wide(letter) < letters, 15)
 }
 
 // BAD-LETTER: each letter of a sequence.
 fn letters_test(letters: usize, sequence: &[u8]) -> Verdict
-    ensures { λ r. ⌜ r ≡ each (letterTest letters) (before sequence) ⌝ }
+    ensures { result ≡ each (letterTest letters) sequence.now }
 {
     let mut i = 0;
     while i < sequence.len() {
@@ -143,7 +147,7 @@ fn letters_test(letters: usize, sequence: &[u8]) -> Verdict
 }
 
 fn wide(x: u8) -> usize
-    ensures { λ r. ⌜ r ≡ x ⌝ }
+    ensures { result ≡ x }
 {
     x as usize
 }
@@ -157,7 +161,7 @@ fn judge_test(
     set: u64,
     sequence: &[u8],
 ) -> Verdict
-    ensures { λ r. ⌜ r ≡ judgeTest (patternIn states letters finals rows) set (before sequence) ⌝ }
+    ensures { result ≡ judgeTest (patternOf states letters finals rows.now) set sequence.now }
 {
     let pattern = pattern_test(states, letters, finals, rows);
     let Verdict::Fine = pattern else {
@@ -172,10 +176,10 @@ fn judge_test(
 
 // The set that a sequence leads to.
 fn reached(states: usize, letters: usize, rows: &[u64], set: u64, sequence: &[u8]) -> u64
-    requires { ⌜ states ≤ 64 ⌝ }
-    requires { ⌜ length (now rows) ≡ states * letters ⌝ }
-    requires { ⌜ Over letters (now sequence) ⌝ }
-    ensures { λ r. ⌜ ((finals : ℕ) → r ≡ reach (patternIn states letters finals rows) set (before sequence)) ⌝ }
+    requires states_bound { states ≤ 64 }
+    requires rows_len { length rows.now ≡ states * letters }
+    requires over { Over letters sequence.now }
+    ensures { (finals : ℕ) → result ≡ reach (patternOf states letters finals rows.now) set sequence.now }
 {
     let mut at = set;
     let mut read = 0;
@@ -195,7 +199,7 @@ pub fn judge(
     set: u64,
     sequence: &[u8],
 ) -> Judged
-    ensures { λ r. ⌜ r ≡ judged (patternIn states letters finals rows) set (before sequence) ⌝ }
+    ensures { result ≡ judged (patternOf states letters finals rows.now) set sequence.now }
 {
     let test = judge_test(states, letters, finals, rows, set, sequence);
     if let Verdict::Against(number) = test {

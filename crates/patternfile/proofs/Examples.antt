@@ -1,11 +1,11 @@
 -- Pattern files computed by the definitions: the scope's own, and one for each order that could be got wrong.
-use mathlib.Core.List.{[], _∷_}
-use mathlib.Core.Path.{_≡_, refl}
-use Rattle·verdict.specs.Tests.{need, inOrder}
-use Rattle·pattern.specs.Tests.{sizeTest, setTest, spaceTest}
-use Rattle·numbers.specs.Numbers.{byteTest, groups, numberAt}
-use Rattle·numbers.specs.Format.{many, got, refused, reading, fileReading}
-use Rattle·patternfile·specs.specs.PatternFile.{patternThen, patternFormat}
+use mathlib.Core.List.{[], ◌∷◌}
+use mathlib.Core.Path.{◌≡◌, refl}
+use Rattle.verdict.specs.Tests.{need, inOrder}
+use Rattle.pattern.specs.Tests.{sizeTest, setTest, spaceTest}
+use Rattle.numbers.specs.Numbers.{byteTest, groups, numberAt}
+use Rattle.numbers.specs.Format.{many, got, refused, reading, fileReading}
+use Rattle.patternfile.specs.PatternFile.{patternThen, patternFormat}
 
 -- pattern A with the sets 1 and 4
 pub pattern-a : fileReading (patternFormat 3) (0x03 ∷ 0x01 ∷ 0x05 ∷ 0x02 ∷ 0x01 ∷ 0x04 ∷ 0x01 ∷ 0x04 ∷ []) ≡ got (3 ∷ 1 ∷ 5 ∷ 2 ∷ 1 ∷ 4 ∷ 1 ∷ 4 ∷ []) 8

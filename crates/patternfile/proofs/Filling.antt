@@ -1,28 +1,28 @@
 -- The second pass: the numbers that the first pass judged go into the rows.
-use Prim.Native.Nat.{ℕ, _+_, _*_, _-_, _<_, _≤_}
-use mathlib.Core.List.{List, [], _∷_}
-use mathlib.Core.Path.{_≡_, refl, sym, ap, _∙_, subst}
+use Prim.Native.Nat.{ℕ, ◌+◌, ◌*◌, ◌-◌, ◌<◌, ◌≤◌}
+use mathlib.Core.List.{List, [], ◌∷◌}
+use mathlib.Core.Path.{◌≡◌, refl, sym, ap, ◌∙◌, subst}
 use native.Mathlib.Omega.{arith}
 use lib.ListN.{length, set, length-set}
-use Rattle·verdict.specs.declared.Verdict.{Verdict}
-use Rattle·verdict.specs.declared.Verdict.the-variants.{Fine, Against}
-use Rattle·lent.proofs.Putting.{put-one, put-laid, Left, left-first, left-step, left-done}
-use Rattle·pattern.specs.Pattern.{Sized, patternOf}
-use Rattle·pattern.specs.Tests.{setTest}
-use Rattle·numbers.specs.declared.Number.{Number}
-use Rattle·numbers.specs.declared.Number.the-variants.{Value, Fault}
-use Rattle·numbers.specs.Numbers.{encode, numberAt, AreBytes}
-use Rattle·numbers.specs.Format.{Format, ended, item, many, Reading, got, refused, heldTo, orRefused, before, reading, encodeAll, ruled}
-use Rattle·numbers.proofs.Formats.{refused-got, file-write-after-read}
-use Rattle·numbers.proofs.Parts.{many-none, many-more, many-length, reading-ended}
-use Rattle·numbers.proofs.Steps.{file-stopped, file-tail, file-whole}
-use Rattle·patternfile·specs.specs.declared.PatternRead.the-variants.{Done, Refused}
-use Rattle·patternfile·specs.specs.declared.PatternPart.{PatternPart}
-use Rattle·patternfile·specs.specs.declared.PatternPart.the-variants.{Whole, Stopped}
-use Rattle·patternfile·specs.specs.PatternFile.{numbersOf, patternFormat}
-use Rattle·patternfile·specs.specs.Reader.{Reads}
-use Rattle·patternfile·specs.specs.Parts.{PartOf, Judges, Filled}
-use Rattle·patternfile·proofs.proofs.Contents.{part-valid, rows-stand}
+use Rattle.verdict.specs.declared.Verdict.{Verdict}
+use Rattle.verdict.specs.declared.Verdict.TheVariants.{Fine, Against}
+use Rattle.lent.proofs.Putting.{put-one, put-laid, Left, left-first, left-step, left-done}
+use Rattle.pattern.specs.Pattern.{Sized, patternOf}
+use Rattle.pattern.specs.Tests.{setTest}
+use Rattle.numbers.specs.declared.Number.{Number}
+use Rattle.numbers.specs.declared.Number.TheVariants.{Value, Fault}
+use Rattle.numbers.specs.Numbers.{encode, numberAt, AreBytes}
+use Rattle.numbers.specs.Format.{Format, ended, item, many, Reading, got, refused, heldTo, orRefused, before, reading, encodeAll, ruled}
+use Rattle.numbers.proofs.Formats.{refused-got, file-write-after-read}
+use Rattle.numbers.proofs.Parts.{many-none, many-more, many-length, reading-ended}
+use Rattle.numbers.proofs.Steps.{file-stopped, file-tail, file-whole}
+use Rattle.patternfile.specs.declared.PatternRead.TheVariants.{Done, Refused}
+use Rattle.patternfile.specs.declared.PatternPart.{PatternPart}
+use Rattle.patternfile.specs.declared.PatternPart.TheVariants.{Whole, Stopped}
+use Rattle.patternfile.specs.PatternFile.{numbersOf, patternFormat}
+use Rattle.patternfile.specs.Reader.{Reads}
+use Rattle.patternfile.specs.Parts.{PartOf, Judges, Filled}
+use Rattle.patternfile.proofs.Contents.{part-valid, rows-stand}
 
 -- ---- reading that went well, number by number
 
@@ -87,34 +87,34 @@ module _ {s : List ℕ} {at count : ℕ} {old rows : List ℕ} {i place : ℕ} (
   filling-stopped h e q =
       record {
         filled = λ test vs next r.
-            let l : Remaining s old rows test vs next (count - i) i place = g .left test vs next r in
-            absurd (item-fault test (λ v. many (count - i - 1) test ended) s place (l .us) next (sym e ∙ q) (some-left h test (l .us) next (l .stand)));
+            let l : Remaining s old rows test vs next (count - i) i place = g.left test vs next r in
+            absurd (item-fault test (λ v. many (count - i - 1) test ended) s place l.us next (sym e ∙ q) (some-left h test l.us next l.stand));
       }
 
   stepped : {x : Number} {v to : ℕ} → i < count → i < length rows → x ≡ numberAt s place → x ≡ Value v to → (test : ℕ → Verdict) (vs : List ℕ) (next : ℕ)
       → Remaining s old rows test vs next (count - i) i place → Remaining s old (set rows i v) test vs next (count - (i + 1)) (i + 1) to
   stepped {v} {to} h m e q test vs next l =
       let n : count - (i + 1) ≡ count - i - 1 = omega arith in
-      let r : First (λ v. many (count - i - 1) test ended) s (l .us) next v to =
-      item-first test (λ v. many (count - i - 1) test ended) s place (l .us) next v to (sym e ∙ q) (some-left h test (l .us) next (l .stand)) in
-      record { us = r .ws; stand = rw n (r .read); laying = left-step (r .ws) (l .laying) (r .are) (put-one rows i v m) }
+      let r : First (λ v. many (count - i - 1) test ended) s l.us next v to =
+      item-first test (λ v. many (count - i - 1) test ended) s place l.us next v to (sym e ∙ q) (some-left h test l.us next l.stand) in
+      record { us = r.ws; stand = rw n r.read; laying = left-step r.ws l.laying r.are (put-one rows i v m) }
 
   pub filling-step : {x : Number} {v to : ℕ} → i < count → i < length rows → x ≡ numberAt s place → x ≡ Value v to → Filling s at count old (set rows i v) (i + 1) to
-  filling-step {v} {to} h m e q = record { long = length-set rows i v ∙ g .long; left = λ test vs next r. stepped h m e q test vs next (g .left test vs next r) }
+  filling-step {v} {to} h m e q = record { long = length-set rows i v ∙ g.long; left = λ test vs next r. stepped h m e q test vs next (g.left test vs next r) }
 
   pub filling-done : count ≤ i → Filled s at count old rows
   filling-done h =
       record {
         filled = λ test vs next r.
-            let l : Remaining s old rows test vs next (count - i) i place = g .left test vs next r in
+            let l : Remaining s old rows test vs next (count - i) i place = g.left test vs next r in
             let z : count - i ≡ 0 = omega arith in
-            let n : got [] place ≡ got (l .us) next =
+            let n : got [] place ≡ got l.us next =
             sym (reading-ended s place)
             ∙ sym (ap (λ (f : Format). reading f s place) (many-none test ended))
             ∙ sym (ap (λ (m : ℕ). reading (many m test ended) s place) z)
-            ∙ l .stand in
-            let e : l .us ≡ [] = cc in
-            put-laid (left-done (l .laying) e);
+            ∙ l.stand in
+            let e : l.us ≡ [] = cc in
+            put-laid (left-done l.laying e);
       }
 
 -- ---- the whole reader
@@ -128,26 +128,26 @@ module _ (s old : List ℕ) {r : PatternPart} (j : Judges s (length old) r) wher
     found = subst (Judges s (length old)) q j
 
     pub reads-tail : end < length s → Reads s old (Refused 22 end) old
-    reads-tail h = record { fault = file-tail (patternFormat (length old)) s (found .1 .read) h; unchanged = refl }
+    reads-tail h = record { fault = file-tail (patternFormat (length old)) s found.1.read h; unchanged = refl }
 
     module _ (are : AreBytes s) where
       pub reads-sized : Sized n k
-      reads-sized = part-valid are (found .1) .valid .sized
+      reads-sized = (part-valid are found.1).valid.sized
 
       pub reads-room : n * k ≤ length old
-      reads-room = part-valid are (found .1) .enough
+      reads-room = (part-valid are found.1).enough
 
       pub reads-done : {new : List ℕ} {at count : ℕ} → at ≡ 2 + length (encode finals) → count ≡ n * k → length s ≤ end → Filled s at count old new
           → Reads s old (Done n k finals x y) new
       reads-done e c h g =
-          let numbers = numbersOf (patternOf n k finals (found .0)) x y in
-          let whole = file-whole (patternFormat (length old)) s (found .1 .read) h in
+          let numbers = numbersOf (patternOf n k finals found.0) x y in
+          let whole = file-whole (patternFormat (length old)) s found.1.read h in
           record {
-            rows = found .0;
+            rows = found.0;
             file =
                 record {
-                  tabled = found .1 .tabled;
-                  read = whole ∙ ap (got numbers) (file-write-after-read (patternFormat (length old)) s numbers end are whole .takes-all);
+                  tabled = found.1.tabled;
+                  read = whole ∙ ap (got numbers) (file-write-after-read (patternFormat (length old)) s numbers end are whole).takes-all;
                 };
-            written = g .filled (setTest n) (found .0) (2 + length (encode finals) + length (encodeAll (found .0))) (rw (e, c) (rows-stand are (found .1)));
+            written = g.filled (setTest n) found.0 (2 + length (encode finals) + length (encodeAll found.0)) (rw (e, c) (rows-stand are found.1));
           }

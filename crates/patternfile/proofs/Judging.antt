@@ -1,26 +1,26 @@
 -- The first pass over a file: each way out of it is what reading the pattern's numbers gives.
-use Prim.Native.Nat.{ℕ, _*_, _<_, _≤_}
-use mathlib.Core.List.{List, [], _∷_, _++_, append-assoc}
+use Prim.Native.Nat.{ℕ, ◌*◌, ◌<◌, ◌≤◌}
+use mathlib.Core.List.{List, [], ◌∷◌, ◌++◌, append_assoc}
 use mathlib.Core.Logic.{inl}
-use mathlib.Core.Path.{_≡_, refl, sym, ap, _∙_, subst}
+use mathlib.Core.Path.{◌≡◌, refl, sym, ap, ◌∙◌, subst}
 use native.Mathlib.Omega.{arith}
 use lib.ListN.{length}
-use Rattle·pattern.specs.Pattern.{Sized}
-use Rattle·pattern.specs.Tests.{sizeTest, setTest}
-use Rattle·pattern.proofs.Validity.{sized-fine, space-fine}
-use Rattle·pattern.proofs.Refusals.{space-line}
-use Rattle·numbers.specs.declared.Number.{Number}
-use Rattle·numbers.specs.declared.Number.the-variants.{Value, Fault}
-use Rattle·numbers.specs.Numbers.{numberAt}
-use Rattle·numbers.specs.Format.{ended, item, many, Reading, got, refused, heldTo, reading}
-use Rattle·numbers.proofs.RoundTrip.{fault-value}
-use Rattle·numbers.proofs.Formats.{held}
-use Rattle·numbers.proofs.Parts.{many-length}
-use Rattle·numbers.proofs.Steps.{Reached, reached-first, reached-item, reached-gate, reached-many, reached-end, stopped-gate, stopped-many}
-use Rattle·patternfile·specs.specs.declared.PatternPart.{PatternPart}
-use Rattle·patternfile·specs.specs.declared.PatternPart.the-variants.{Whole}
-use Rattle·patternfile·specs.specs.PatternFile.{startsThen, setsThen, afterLetters, patternThen, patternFormat}
-use Rattle·patternfile·specs.specs.Parts.{Judges, passed, stoppedBy}
+use Rattle.pattern.specs.Pattern.{Sized}
+use Rattle.pattern.specs.Tests.{sizeTest, setTest}
+use Rattle.pattern.proofs.Validity.{sized-fine, space-fine}
+use Rattle.pattern.proofs.Refusals.{space-line}
+use Rattle.numbers.specs.declared.Number.{Number}
+use Rattle.numbers.specs.declared.Number.TheVariants.{Value, Fault}
+use Rattle.numbers.specs.Numbers.{numberAt}
+use Rattle.numbers.specs.Format.{ended, item, many, Reading, got, refused, heldTo, reading}
+use Rattle.numbers.proofs.RoundTrip.{fault-value}
+use Rattle.numbers.proofs.Formats.{held}
+use Rattle.numbers.proofs.Parts.{many-length}
+use Rattle.numbers.proofs.Steps.{Reached, reached-first, reached-item, reached-gate, reached-many, reached-end, stopped-gate, stopped-many}
+use Rattle.patternfile.specs.declared.PatternPart.{PatternPart}
+use Rattle.patternfile.specs.declared.PatternPart.TheVariants.{Whole}
+use Rattle.patternfile.specs.PatternFile.{startsThen, setsThen, afterLetters, patternThen, patternFormat}
+use Rattle.patternfile.specs.Parts.{Judges, passed, stoppedBy}
 
 -- ---- numbers passed over
 
@@ -54,17 +54,17 @@ module _ (room : ℕ) (s : List ℕ) where
   module _ {a b : Number} {n k at₁ at₂ : ℕ} (ea : a ≡ heldTo (sizeTest 64) 0 (numberAt s 0)) (qa : a ≡ Value n at₁) (eb : b ≡ heldTo (sizeTest 32) at₁ (numberAt s at₁)) (qb : b ≡ Value k at₂)
       {states letters : ℕ} (es : states ≡ n) (el : letters ≡ k) where
     pub sizes-fine : Sized states letters
-    sizes-fine = rw (es, el) (sized-fine (held (sizeTest 64) 0 (numberAt s 0) (sym ea ∙ qa) .range) (held (sizeTest 32) at₁ (numberAt s at₁) (sym eb ∙ qb) .range))
+    sizes-fine = rw (es, el) (sized-fine (held (sizeTest 64) 0 (numberAt s 0) (sym ea ∙ qa)).range (held (sizeTest 32) at₁ (numberAt s at₁) (sym eb ∙ qb)).range)
 
     pub to-room : Reached (patternFormat room) s (states ∷ letters ∷ []) (afterLetters room states letters ended) at₂
     to-room = rw (es, el) (reached-item (reached-item to-states ea qa) eb qb)
 
   module _ {us : List ℕ} (n k : ℕ) {at count : ℕ} (g : Reached (patternFormat room) s us (afterLetters room n k ended) at) (c : count ≡ n * k) where
     pub stop-room : room < count → reading (patternFormat room) s 0 ≡ refused 14 at
-    stop-room h = stopped-gate g (space-line room (n * k) .against 14 .1 (inl (λ l. omega (arith, c), refl)))
+    stop-room h = stopped-gate g (((space-line room (n * k)).against 14).1 (inl (λ l. omega (arith, c), refl)))
 
     pub to-finals : count ≤ room → Reached (patternFormat room) s us (setsThen n k ended) at
-    to-finals h = reached-gate g (space-fine room (n * k) .1 (rw c at h))
+    to-finals h = reached-gate g ((space-fine room (n * k)).1 (rw c at h))
 
   module _ {us : List ℕ} (n k : ℕ) {at count : ℕ} (g : Reached (patternFormat room) s us (many (n * k) (setTest n) (startsThen n ended)) at) (c : count ≡ n * k)
       {d : Number} (ed : d ≡ passed count (reading (many count (setTest n) ended) s at)) where
@@ -74,17 +74,17 @@ module _ (room : ℕ) (s : List ℕ) where
     pub stop-rows : {w p : ℕ} → d ≡ Fault w p → reading (patternFormat room) s 0 ≡ refused w p
     stop-rows q = stopped-many (n * k) (setTest n) (startsThen n ended) g (passed-refused (n * k) _ passed-all q)
 
-    module _ {m at-x : ℕ} (qd : d ≡ Value m at-x) where
-      rows-read : reading (many (n * k) (setTest n) ended) s at ≡ got (rowsFrom s n k at) at-x
+    module _ {m at_x : ℕ} (qd : d ≡ Value m at_x) where
+      rows-read : reading (many (n * k) (setTest n) ended) s at ≡ got (rowsFrom s n k at) at_x
       rows-read = passed-got (n * k) (reading (many (n * k) (setTest n) ended) s at) passed-all qd
 
       pub rows-tabled : length (rowsFrom s n k at) ≡ n * k
-      rows-tabled = many-length (n * k) (setTest n) s at (rowsFrom s n k at) at-x rows-read
+      rows-tabled = many-length (n * k) (setTest n) s at (rowsFrom s n k at) at_x rows-read
 
-      pub to-x : Reached (patternFormat room) s (us ++ rowsFrom s n k at) (startsThen n ended) at-x
+      pub to-x : Reached (patternFormat room) s (us ++ rowsFrom s n k at) (startsThen n ended) at_x
       to-x = reached-many (n * k) (setTest n) (startsThen n ended) g rows-read
 
   pub all-read : {n k finals x y end : ℕ} (rows : List ℕ) → Reached (patternFormat room) s (n ∷ k ∷ finals ∷ ((rows ++ (x ∷ [])) ++ (y ∷ []))) ended end
       → length rows ≡ n * k → Judges s room (Whole n k finals x y end)
   all-read {n} {k} {finals} {x} {y} {end} rows g t =
-      (rows, record { tabled = t; read = reached-end g ∙ ap (λ (l : List ℕ). got (n ∷ k ∷ finals ∷ l) end) (append-assoc rows (x ∷ []) (y ∷ [])) })
+      (rows, record { tabled = t; read = reached-end g ∙ ap (λ (l : List ℕ). got (n ∷ k ∷ finals ∷ l) end) (append_assoc rows (x ∷ []) (y ∷ [])) })

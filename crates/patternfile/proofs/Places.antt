@@ -1,50 +1,50 @@
 -- Where and why the reader refuses: each refusal by its line of the scope, with its place.
-use Prim.Native.Nat.{ℕ, _+_, _*_, _<_, _≤_}
-use mathlib.Core.List.{List, [], _∷_, _++_, append-assoc}
-use mathlib.Core.Logic.{_↔_, _⊎_, inl, inr}
-use mathlib.Core.Path.{_≡_, refl, sym, ap, _∙_, subst}
-use native.Mathlib.Decide.{decLe}
+use Prim.Native.Nat.{ℕ, ◌+◌, ◌*◌, ◌<◌, ◌≤◌}
+use mathlib.Core.List.{List, [], ◌∷◌, ◌++◌, append_assoc}
+use mathlib.Core.Logic.{◌↔◌, ◌⊎◌, inl, inr}
+use mathlib.Core.Path.{◌≡◌, refl, sym, ap, ◌∙◌, subst}
+use native.Mathlib.Decide.{dec_le}
 use native.Mathlib.Nat.{zero-add}
 use native.Mathlib.Omega.{arith}
 use lib.Dec.{leb}
 use lib.ListN.{length, take, drop}
-use lib.Seq.{take-at}
+use lib.Seq.{take_at}
 use borrow.Author.Tests.{leb-false}
-use Rattle·verdict.specs.declared.Verdict.the-variants.{Fine, Against}
-use Rattle·verdict.proofs.Ordered.{apart, need-against}
-use Rattle·sets.specs.Sets.{Good}
-use Rattle·pattern.specs.Pattern.{patternOf}
-use Rattle·pattern.specs.Tests.{sizeTest, setTest, spaceTest}
-use Rattle·pattern.proofs.Validity.{size-fine, set-fine}
-use Rattle·numbers.specs.declared.Number.the-variants.{Value, Fault}
-use Rattle·numbers.specs.Numbers.{encode, numberAt, AreBytes}
-use Rattle·numbers.specs.Format.{Format, ended, item, refused, fileReading, encodeAll, Fits}
-use Rattle·numbers.specs.Faults.{After, here, taken, through, StoppedBy, by-form, by-range, by-gate, by-tail, Stops}
-use Rattle·numbers.proofs.Groups.{one-byte}
-use Rattle·numbers.proofs.RoundTrip.{read-after-write}
-use Rattle·numbers.proofs.Faults.{cut-exactly, long-exactly, fault-is}
-use Rattle·numbers.proofs.Formats.{refused-got, file-read-after-write}
-use Rattle·numbers.proofs.Places.{first-fault, after-fits, AfterMany, among, behind, after-many}
-use Rattle·patternfile·specs.specs.declared.PatternRead.{PatternRead}
-use Rattle·patternfile·specs.specs.declared.PatternRead.the-variants.{Done, Refused}
-use Rattle·patternfile·specs.specs.PatternFile.{numbersOf, startsThen, setsThen, afterLetters, patternThen, patternFormat}
-use Rattle·patternfile·specs.specs.Reader.{Reads}
-use Rattle·patternfile·specs.specs.Refusals.{RefusedAt, bad-states, bad-letters, no-room, bad-set, cut, long, tail}
+use Rattle.verdict.specs.declared.Verdict.TheVariants.{Fine, Against}
+use Rattle.verdict.proofs.Ordered.{apart, need-against}
+use Rattle.sets.specs.Sets.{Good}
+use Rattle.pattern.specs.Pattern.{patternOf}
+use Rattle.pattern.specs.Tests.{sizeTest, setTest, spaceTest}
+use Rattle.pattern.proofs.Validity.{size-fine, set-fine}
+use Rattle.numbers.specs.declared.Number.TheVariants.{Value, Fault}
+use Rattle.numbers.specs.Numbers.{encode, numberAt, AreBytes}
+use Rattle.numbers.specs.Format.{Format, ended, item, refused, fileReading, encodeAll, Fits}
+use Rattle.numbers.specs.Faults.{After, here, taken, through, StoppedBy, by-form, by-range, by-gate, by-tail, Stops}
+use Rattle.numbers.proofs.Groups.{one-byte}
+use Rattle.numbers.proofs.RoundTrip.{read-after-write}
+use Rattle.numbers.proofs.Faults.{cut-exactly, long-exactly, fault-is}
+use Rattle.numbers.proofs.Formats.{refused-got, file-read-after-write}
+use Rattle.numbers.proofs.Places.{first-fault, after-fits, AfterMany, among, behind, after-many}
+use Rattle.patternfile.specs.declared.PatternRead.{PatternRead}
+use Rattle.patternfile.specs.declared.PatternRead.TheVariants.{Done, Refused}
+use Rattle.patternfile.specs.PatternFile.{numbersOf, startsThen, setsThen, afterLetters, patternThen, patternFormat}
+use Rattle.patternfile.specs.Reader.{Reads}
+use Rattle.patternfile.specs.Refusals.{RefusedAt, bad-states, bad-letters, no-room, bad-set, cut, long, tail}
 
 -- ---- what each test refuses
 
 size-against : (most v : ℕ) {w : ℕ} → sizeTest most v ≡ Against w → (w ≡ 10) × ((v < 1) ⊎ (most < v))
 unfolding sizeTest
-size-against most v h = (need-against _ 10 h .1, outside (decLe 1 v) (decLe v most))
+size-against most v h = ((need-against _ 10 h).1, outside (dec_le 1 v) (dec_le v most))
   where
     outside : Dec (1 ≤ v) → Dec (v ≤ most) → (v < 1) ⊎ (most < v)
     outside (no p) q = inl (omega arith)
     outside (yes p) (no q) = inr (omega arith)
-    outside (yes p) (yes q) = apart (size-fine most v .1 (p, q)) h
+    outside (yes p) (yes q) = apart ((size-fine most v).1 (p, q)) h
 
 set-against : (n v : ℕ) {w : ℕ} → setTest n v ≡ Against w → (w ≡ 12) × (Good n v → ⊥)
 unfolding setTest
-set-against n v h = (need-against _ 12 h .1, λ g. apart (set-fine n v .1 g) h)
+set-against n v h = ((need-against _ 12 h).1, λ g. apart ((set-fine n v).1 g) h)
 
 space-against : (room count : ℕ) {w : ℕ} → spaceTest room count ≡ Against w → (w ≡ 14) × (room < count)
 unfolding spaceTest
@@ -52,22 +52,22 @@ space-against room count h = let (i, j) = need-against (leb count room) 14 h in 
 
 -- a number badly formed
 form-refused : {room : ℕ} {s : List ℕ} {w place : ℕ} → numberAt s place ≡ Fault w place → RefusedAt room s w place
-form-refused {room} {s} {w} {place} h = go (fault-is s place h .0)
+form-refused {room} {s} {w} {place} h = go (fault-is s place h).0
   where
     go : (w ≡ 20) ⊎ (w ≡ 21) → RefusedAt room s w place
-    go (inl e) = rw e (cut (cut-exactly s place .0 (rw e at h)))
-    go (inr e) = rw e (long (long-exactly s place .0 (rw e at h)))
+    go (inl e) = rw e (cut ((cut-exactly s place).0 (rw e at h)))
+    go (inr e) = rw e (long ((long-exactly s place).0 (rw e at h)))
 
 -- ---- the first two numbers of a file
 
 module _ (s : List ℕ) (n : ℕ) (fine : sizeTest 64 n ≡ Fine) where
   n-small : n < 128
-  n-small = omega (arith, size-fine 64 n .0 fine .1)
+  n-small = omega (arith, ((size-fine 64 n).0 fine).1)
 
   n-read : (us t : List ℕ) → s ≡ encodeAll (n ∷ us) ++ t → numberAt s 0 ≡ Value n 1
   unfolding encodeAll
   n-read us t b =
-      let e : drop 0 s ≡ encode n ++ (encodeAll us ++ t) = b ∙ append-assoc (encode n) (encodeAll us) t in
+      let e : drop 0 s ≡ encode n ++ (encodeAll us ++ t) = b ∙ append_assoc (encode n) (encodeAll us) t in
       let l : 0 + length (encode n) ≡ 1 = omega (arith, ap length (one-byte n n-small)) in
       read-after-write s 0 n (encodeAll us ++ t) (omega (arith, n-small)) e ∙ ap (Value n) l
 
@@ -75,15 +75,15 @@ module _ (s : List ℕ) (n : ℕ) (fine : sizeTest 64 n ≡ Fine) where
   unfolding encodeAll
   n-place = rw (one-byte n n-small)
 
-  module _ (k : ℕ) (fine′ : sizeTest 32 k ≡ Fine) where
+  module _ (k : ℕ) (fine' : sizeTest 32 k ≡ Fine) where
     k-small : k < 128
-    k-small = omega (arith, size-fine 32 k .0 fine′ .1)
+    k-small = omega (arith, ((size-fine 32 k).0 fine').1)
 
     k-read : (us t : List ℕ) → s ≡ encodeAll (n ∷ k ∷ us) ++ t → numberAt s 1 ≡ Value k 2
     unfolding encodeAll
     k-read us t b =
         let one : s ≡ n ∷ ((encode k ++ encodeAll us) ++ t) = b ∙ ap (λ (l : List ℕ). (l ++ (encode k ++ encodeAll us)) ++ t) (one-byte n n-small) in
-        let e : drop 1 s ≡ encode k ++ (encodeAll us ++ t) = ap (drop 1) one ∙ append-assoc (encode k) (encodeAll us) t in
+        let e : drop 1 s ≡ encode k ++ (encodeAll us ++ t) = ap (drop 1) one ∙ append_assoc (encode k) (encodeAll us) t in
         let l : 1 + length (encode k) ≡ 2 = omega (arith, ap length (one-byte k k-small)) in
         read-after-write s 1 k (encodeAll us ++ t) (omega (arith, k-small)) e ∙ ap (Value k) l
 
@@ -109,51 +109,51 @@ at-tail : {room : ℕ} {s vs : List ℕ} {w place n : ℕ} (k f x y : ℕ) (rows
     → StoppedBy s w place ended → RefusedAt room s w place
 at-tail {room} {s} {vs} {w} {place} {n} k f x y rows e l t (by-tail q h) =
     let P = patternOf n k f rows in
-    let c : take place s ≡ encodeAll (numbersOf P x y) = ap (take place) (t .bytes) ∙ take-at (encodeAll vs) (drop place s) place (sym (t .placed)) ∙ ap encodeAll e in
-    let fits : Fits (patternFormat room) (numbersOf P x y) = subst (Fits (patternFormat room)) e (after-fits (t .whole)) in
+    let c : take place s ≡ encodeAll (numbersOf P x y) = ap (take place) t.bytes ∙ take_at (encodeAll vs) (drop place s) place (sym t.placed) ∙ ap encodeAll e in
+    let fits : Fits (patternFormat room) (numbersOf P x y) = subst (Fits (patternFormat room)) e (after-fits t.whole) in
     rw q (tail P x y h (record { tabled = l; read = rw c (file-read-after-write (patternFormat room) (numbersOf P x y) fits) }))
 
-in-end : {room : ℕ} {s vs us : List ℕ} {g : Format} {w place n : ℕ} (k f x y : ℕ) (rows : List ℕ) → After ended us g → vs ≡ n ∷ k ∷ f ∷ (rows ++ (x ∷ y ∷ us)) → length rows ≡ n * k
+in-end : {room n : ℕ} {s vs us : List ℕ} (k f x y : ℕ) (rows : List ℕ) {g : Format} {w place : ℕ} → After ended us g → vs ≡ n ∷ k ∷ f ∷ (rows ++ (x ∷ y ∷ us)) → length rows ≡ n * k
     → Where room s vs g w place n → RefusedAt room s w place
-in-end k f x y rows here e l t = at-tail k f x y rows e l t (t .stopped)
+in-end k f x y rows here e l t = at-tail k f x y rows e l t t.stopped
 
-in-y : {room : ℕ} {s vs us : List ℕ} {g : Format} {w place n : ℕ} (k f x : ℕ) (rows : List ℕ) → After (item (setTest n) (λ y. ended)) us g → vs ≡ n ∷ k ∷ f ∷ (rows ++ (x ∷ us))
+in-y : {room n : ℕ} {s vs us : List ℕ} (k f x : ℕ) (rows : List ℕ) {g : Format} {w place : ℕ} → After (item (setTest n) (λ y. ended)) us g → vs ≡ n ∷ k ∷ f ∷ (rows ++ (x ∷ us))
     → length rows ≡ n * k → Where room s vs g w place n → RefusedAt room s w place
-in-y k f x rows here e l t = at-set (t .states) (t .stopped)
+in-y k f x rows here e l t = at-set t.states t.stopped
 in-y k f x rows (taken {v = y} a q h) e l t = in-end k f x y rows h e l t
 
-in-starts : {room : ℕ} {s vs us : List ℕ} {g : Format} {w place n : ℕ} (k f : ℕ) (rows : List ℕ) → After (startsThen n ended) us g → vs ≡ n ∷ k ∷ f ∷ (rows ++ us) → length rows ≡ n * k
+in-starts : {room n : ℕ} {s vs us : List ℕ} (k f : ℕ) (rows : List ℕ) {g : Format} {w place : ℕ} → After (startsThen n ended) us g → vs ≡ n ∷ k ∷ f ∷ (rows ++ us) → length rows ≡ n * k
     → Where room s vs g w place n → RefusedAt room s w place
-in-starts k f rows here e l t = at-set (t .states) (t .stopped)
+in-starts k f rows here e l t = at-set t.states t.stopped
 in-starts k f rows (taken {v = x} a q h) e l t = in-y k f x rows h e l t
 
-in-rows : {room : ℕ} {s vs us : List ℕ} {g : Format} {w place n : ℕ} (k f : ℕ) → AfterMany (n * k) (setTest n) (startsThen n ended) us g → vs ≡ n ∷ k ∷ f ∷ us → Where room s vs g w place n
+in-rows : {room n : ℕ} {s vs us : List ℕ} (k f : ℕ) {g : Format} {w place : ℕ} → AfterMany (n * k) (setTest n) (startsThen n ended) us g → vs ≡ n ∷ k ∷ f ∷ us → Where room s vs g w place n
     → RefusedAt room s w place
-in-rows k f among e t = at-set (t .states) (t .stopped)
+in-rows k f among e t = at-set t.states t.stopped
 in-rows {n = n} k f (behind ws vs q l h) e t = in-starts k f ws h (e ∙ ap (λ (us : List ℕ). n ∷ k ∷ f ∷ us) q) l t
 
-in-finals : {room : ℕ} {s vs us : List ℕ} {g : Format} {w place n : ℕ} (k : ℕ) → After (setsThen n k ended) us g → vs ≡ n ∷ k ∷ us
+in-finals : {room n : ℕ} {s vs us : List ℕ} (k : ℕ) {g : Format} {w place : ℕ} → After (setsThen n k ended) us g → vs ≡ n ∷ k ∷ us
     → Where room s vs g w place n → RefusedAt room s w place
-in-finals k here e t = at-set (t .states) (t .stopped)
+in-finals k here e t = at-set t.states t.stopped
 in-finals {n = n} k (taken {v = f} l q h) e t = in-rows k f (after-many (n * k) (setTest n) (startsThen n ended) h) e t
 
 at-room : {room : ℕ} {s : List ℕ} {w place : ℕ} (n k : ℕ) → numberAt s 0 ≡ Value n 1 → numberAt s 1 ≡ Value k 2 → place ≡ 2 → StoppedBy s w place (afterLetters room n k ended) → RefusedAt room s w place
-at-room {room} n k e e′ p (by-gate h) = let (i, j) = space-against room (n * k) h in rw (i, p) (no-room e e′ j)
+at-room {room} n k e e' p (by-gate h) = let (i, j) = space-against room (n * k) h in rw (i, p) (no-room e e' j)
 
-in-room : {room : ℕ} {s vs us : List ℕ} {g : Format} {w place n : ℕ} (k : ℕ) → sizeTest 64 n ≡ Fine → sizeTest 32 k ≡ Fine → After (afterLetters room n k ended) us g → vs ≡ n ∷ k ∷ us
+in-room : {room n : ℕ} {s vs us : List ℕ} (k : ℕ) {g : Format} {w place : ℕ} → sizeTest 64 n ≡ Fine → sizeTest 32 k ≡ Fine → After (afterLetters room n k ended) us g → vs ≡ n ∷ k ∷ us
     → Where room s vs g w place n → RefusedAt room s w place
-in-room {s = s} {place = place} {n = n} k p q here e t =
-    let b : s ≡ encodeAll (n ∷ k ∷ []) ++ drop place s = t .bytes ∙ ap (λ (l : List ℕ). encodeAll l ++ drop place s) e in
-    at-room n k (t .states) (k-read s n p k q [] (drop place s) b) (t .placed ∙ ap (λ (l : List ℕ). length (encodeAll l)) e ∙ k-place s n p k q) (t .stopped)
+in-room {n = n} {s = s} k {place = place} p q here e t =
+    let b : s ≡ encodeAll (n ∷ k ∷ []) ++ drop place s = t.bytes ∙ ap (λ (l : List ℕ). encodeAll l ++ drop place s) e in
+    at-room n k t.states (k-read s n p k q [] (drop place s) b) (t.placed ∙ ap (λ (l : List ℕ). length (encodeAll l)) e ∙ k-place s n p k q) t.stopped
 in-room k p q (through c h) e t = in-finals k h e t
 
 at-letters : {room : ℕ} {s : List ℕ} {w place : ℕ} {rest : ℕ → Format} → place ≡ 1 → StoppedBy s w place (item (sizeTest 32) rest) → RefusedAt room s w place
 at-letters p (by-form h) = form-refused h
 at-letters {s = s} p (by-range {v = v} h q) = let (i, j) = size-against 32 v q in rw (i, p) (bad-letters (ap (numberAt s) (sym p) ∙ h) j)
 
-in-letters : {room : ℕ} {s vs us : List ℕ} {g : Format} {w place n : ℕ} → sizeTest 64 n ≡ Fine → After (item (sizeTest 32) (λ k. afterLetters room n k ended)) us g → vs ≡ n ∷ us
+in-letters : {room n : ℕ} {s vs us : List ℕ} {g : Format} {w place : ℕ} → sizeTest 64 n ≡ Fine → After (item (sizeTest 32) (λ k. afterLetters room n k ended)) us g → vs ≡ n ∷ us
     → Where room s vs g w place n → RefusedAt room s w place
-in-letters {s = s} {n = n} p here e t = at-letters (t .placed ∙ ap (λ (l : List ℕ). length (encodeAll l)) e ∙ n-place s n p) (t .stopped)
+in-letters {n = n} {s = s} p here e t = at-letters (t.placed ∙ ap (λ (l : List ℕ). length (encodeAll l)) e ∙ n-place s n p) t.stopped
 in-letters p (taken {v = k} l q h) e t = in-room k p q h e t
 
 at-states : {room : ℕ} {s : List ℕ} {w place : ℕ} {rest : ℕ → Format} → place ≡ 0 → StoppedBy s w place (item (sizeTest 64) rest) → RefusedAt room s w place
@@ -171,20 +171,20 @@ in-states {s = s} {us = us} {place = place} (taken {v = n} {us = vs} l q h) st e
 pub refusal-place : {s old new : List ℕ} {w place : ℕ} → AreBytes s → Reads s old (Refused w place) new → RefusedAt (length old) s w place
 unfolding patternFormat patternThen
 refusal-place {s} {old} {w = w} {place = place} are r =
-    let f : Stops (patternFormat (length old)) s 0 w place = first-fault (patternFormat (length old)) s w place are .0 (r .fault) in
-    in-states (f .follows) (f .stopped) (f .placed ∙ zero-add _) (f .bytes)
+    let f : Stops (patternFormat (length old)) s 0 w place = (first-fault (patternFormat (length old)) s w place are).0 r.fault in
+    in-states f.follows f.stopped (f.placed ∙ zero-add _) f.bytes
 
 -- and it is refused so exactly where reading stops there
 pub refusal-exactly : (s old : List ℕ) (r : PatternRead) (new : List ℕ) {w place : ℕ} → AreBytes s → Reads s old r new → (r ≡ Refused w place) ↔ Stops (patternFormat (length old)) s 0 w place
 refusal-exactly s old r new {w} {place} are h = (
-  λ q. first-fault (patternFormat (length old)) s w place are .0 (subst (λ (z : PatternRead). Reads s old z new) q h .fault),
-  λ t. there r h (first-fault (patternFormat (length old)) s w place are .1 t),
+  λ q. (first-fault (patternFormat (length old)) s w place are).0 (subst (λ (z : PatternRead). Reads s old z new) q h).fault,
+  λ t. there r h ((first-fault (patternFormat (length old)) s w place are).1 t),
 )
   where
     there : (r : PatternRead) → Reads s old r new → fileReading (patternFormat (length old)) s ≡ refused w place → r ≡ Refused w place
-    there (Done n k f x y) h e = absurd (refused-got (sym e ∙ h .file .read))
-    there (Refused w′ place′) h e =
-        let q : refused w′ place′ ≡ refused w place = sym (h .fault) ∙ e in
-        let i : w′ ≡ w = cc in
-        let j : place′ ≡ place = cc in
+    there (Done n k f x y) h e = absurd (refused-got (sym e ∙ h.file.read))
+    there (Refused w' place') h e =
+        let q : refused w' place' ≡ refused w place = sym h.fault ∙ e in
+        let i : w' ≡ w = cc in
+        let j : place' ≡ place = cc in
         rw (i, j)

@@ -2,38 +2,34 @@
 --   Readable room bytes   the bytes are the file of a valid pattern with two sets of its states, and the rows have room
 --   HonestRead            what an answer of the reader means (`read-honest`)
 --   HonestWrite           what an answer of the writer means (`write-honest`)
-use Prim.Native.Nat.{ℕ, _*_, _≤_}
-use mathlib.Core.List.{List}
-use mathlib.Core.Logic.{_↔_}
-use mathlib.Core.Path.{_≡_}
-use lib.ListN.{length}
-use Rattle·verdict.specs.Lines.{Applies}
-use Rattle·lent.specs.Lent.{lay}
-use Rattle·sets.specs.Sets.{Good}
-use Rattle·pattern.specs.Pattern.{Pattern, Valid}
-use Rattle·numbers.specs.Faults.{Stops}
-use Rattle·patternfile·specs.specs.declared.PatternRead.{PatternRead}
-use Rattle·patternfile·specs.specs.declared.Written.{Written}
-use Rattle·patternfile·specs.specs.PatternFile.{fileBytes, patternFormat}
-use Rattle·patternfile·specs.specs.Reader as Reader
-use Rattle·patternfile·specs.specs.Reader.{Values, valuesOf}
-use Rattle·patternfile·specs.specs.Writer as Writer
-use Rattle·patternfile·specs.specs.Writer.{countOf, Allowed}
-use Rattle·patternfile·specs.specs.Refusals.{RefusedAt, writeLines}
+use Rattle.std.specs.Prelude.{ℕ, ◌*◌, ◌≤◌, List, ◌↔◌, ◌≡◌, length}
+use Rattle.verdict.specs.Lines.{Applies}
+use Rattle.lent.specs.Lent.{lay}
+use Rattle.sets.specs.Sets.{Good}
+use Rattle.pattern.specs.Pattern.{Pattern, Valid}
+use Rattle.numbers.specs.Faults.{Stops}
+use Rattle.patternfile.specs.declared.PatternRead.{PatternRead}
+use Rattle.patternfile.specs.declared.Written.{Written}
+use Rattle.patternfile.specs.PatternFile.{fileBytes, patternFormat}
+use Rattle.patternfile.specs.Reader as Reader
+use Rattle.patternfile.specs.Reader.{Values, valuesOf}
+use Rattle.patternfile.specs.Writer as Writer
+use Rattle.patternfile.specs.Writer.{countOf, Allowed}
+use Rattle.patternfile.specs.Refusals.{RefusedAt, writeLines}
 
 pub record Readable (room : ℕ) (bytes : List ℕ) : Type 0 where
   pub pattern : Pattern
   pub x : ℕ
   pub y : ℕ
   pub valid : Valid pattern
-  pub good-x : Good (pattern .states) x
-  pub good-y : Good (pattern .states) y
-  pub enough : pattern .states * pattern .letters ≤ room
+  pub good-x : Good pattern.states x
+  pub good-y : Good pattern.states y
+  pub enough : pattern.states * pattern.letters ≤ room
   pub file : bytes ≡ fileBytes pattern x y
 
 -- what is returned of a file
 abbrev pub valuesIn : {room : ℕ} {bytes : List ℕ} → Readable room bytes → Values
-valuesIn f = record { states = f .pattern .states; letters = f .pattern .letters; finals = f .pattern .finals; x = f .x; y = f .y; place = 0 }
+valuesIn f = record { states = f.pattern.states; letters = f.pattern.letters; finals = f.pattern.finals; x = f.x; y = f.y; place = 0 }
 
 -- what is returned of a refusal
 abbrev pub valuesAt : ℕ → Values
@@ -43,12 +39,12 @@ valuesAt place = record { states = 0; letters = 0; finals = 0; x = 0; y = 0; pla
 -- up, exactly where reading stops, by its number and place, and then nothing is changed
 pub record HonestRead (bytes old : List ℕ) (r : PatternRead) (new : List ℕ) : Type 0 where
   pub done : (Reader.numberOf r ≡ 7) ↔ Readable (length old) bytes
-  pub returned : (f : Readable (length old) bytes) → (valuesOf r ≡ valuesIn f) × (new ≡ lay (f .pattern .rows) old)
+  pub returned : (f : Readable (length old) bytes) → (valuesOf r ≡ valuesIn f) × (new ≡ lay f.pattern.rows old)
   pub refused : Reader.IsRefused r ↔ (Readable (length old) bytes → ⊥)
-  pub refused-by : (w place : ℕ) → (Reader.IsRefused r × (Reader.numberOf r ≡ w) × (valuesOf r .place ≡ place)) ↔ Stops (patternFormat (length old)) bytes 0 w place
-  pub reason : Reader.IsRefused r → RefusedAt (length old) bytes (Reader.numberOf r) (valuesOf r .place)
+  pub refused-by : (w place : ℕ) → (Reader.IsRefused r × (Reader.numberOf r ≡ w) × ((valuesOf r).place ≡ place)) ↔ Stops (patternFormat (length old)) bytes 0 w place
+  pub reason : Reader.IsRefused r → RefusedAt (length old) bytes (Reader.numberOf r) (valuesOf r).place
   pub high : Reader.IsRefused r → 10 ≤ Reader.numberOf r
-  pub quiet : Reader.IsRefused r → (valuesOf r ≡ valuesAt (valuesOf r .place)) × (new ≡ old)
+  pub quiet : Reader.IsRefused r → (valuesOf r ≡ valuesAt (valuesOf r).place) × (new ≡ old)
 
 -- 7 DONE exactly where nothing is refused, and then the file stands at the start of the buffer, and the bytes past its count keep their content; a
 -- refusal, 10 and up, exactly where a line applies, by its number, and then nothing is changed

@@ -2,24 +2,20 @@
 --   PartOf room bytes P x y end   the numbers of the pattern P with X and Y stand at the start of the bytes, and end is the place after them; what
 --                                 follows is not looked at (`part-then`)
 --   Judges bytes room r           the answer of the first pass
---   Filled ..                     what the second pass leaves; Fills: of the slices lent
---   PutsPattern ..                the bytes of the pattern's numbers were put from a place on
-use Prim.Native.Nat.{ℕ, _*_}
-use mathlib.Core.List.{List}
-use mathlib.Core.Path.{_≡_}
-use lib.ListN.{length}
-use Rattle·verdict.specs.declared.Verdict.{Verdict}
-use Rattle·lent.specs.Lent.{Slice, before, after, lay, Puts}
-use Rattle·pattern.specs.Pattern.{Pattern, patternOf}
-use Rattle·numbers.specs.declared.Number.{Number}
-use Rattle·numbers.specs.declared.Number.the-variants.{Value, Fault}
-use Rattle·numbers.specs.Format.{ended, many, Reading, got, refused, reading}
-use Rattle·patternfile·specs.specs.declared.PatternPart.{PatternPart}
-use Rattle·patternfile·specs.specs.declared.PatternPart.the-variants.{Whole, Stopped}
-use Rattle·patternfile·specs.specs.PatternFile.{numbersOf, patternFormat, fileBytes}
+--   Filled ..                     what the second pass leaves
+use Rattle.std.specs.Prelude.{ℕ, ◌*◌, List, ◌≡◌, length}
+use Rattle.verdict.specs.declared.Verdict.{Verdict}
+use Rattle.lent.specs.Lent.{lay}
+use Rattle.pattern.specs.Pattern.{Pattern, patternOf}
+use Rattle.numbers.specs.declared.Number.{Number}
+use Rattle.numbers.specs.declared.Number.TheVariants.{Value, Fault}
+use Rattle.numbers.specs.Format.{ended, many, Reading, got, refused, reading}
+use Rattle.patternfile.specs.declared.PatternPart.{PatternPart}
+use Rattle.patternfile.specs.declared.PatternPart.TheVariants.{Whole, Stopped}
+use Rattle.patternfile.specs.PatternFile.{numbersOf, patternFormat}
 
 pub record PartOf (room : ℕ) (bytes : List ℕ) (P : Pattern) (x y end : ℕ) : Type 0 where
-  pub tabled : length (P .rows) ≡ P .states * P .letters
+  pub tabled : length P.rows ≡ P.states * P.letters
   pub read : reading (patternFormat room) bytes 0 ≡ got (numbersOf P x y) end
 
 abbrev pub Judges : List ℕ → ℕ → PatternPart → Type 0
@@ -39,9 +35,3 @@ stoppedBy (Fault w place) = Stopped w place
 -- the numbers that stand from a place on, whatever they were held to, lie over the buffer
 pub record Filled (bytes : List ℕ) (at count : ℕ) (old new : List ℕ) : Type 0 where
   pub filled : (test : ℕ → Verdict) (vs : List ℕ) (next : ℕ) → reading (many count test ended) bytes at ≡ got vs next → new ≡ lay vs old
-
-abbrev pub Fills : Slice → ℕ → ℕ → Slice → Type 0
-Fills bytes at count rows = Filled (before bytes) at count (before rows) (after rows)
-
-abbrev pub PutsPattern : Slice → ℕ → ℕ → ℕ → ℕ → Slice → ℕ → ℕ → ℕ → Type 0
-PutsPattern out at n k finals rows x y next = Puts out at (fileBytes (patternOf n k finals (before rows)) x y) next

@@ -3,14 +3,13 @@
 --   fileBytes P x y          the bytes of these numbers
 --   patternThen room more    the numbers as a format, for a row buffer of so many entries, and then what may follow them, given n
 --   patternFormat room       the pattern file: nothing follows (`no-longer`, `one-as-long`)
-use Prim.Native.Nat.{ℕ, _*_}
-use mathlib.Core.List.{List, [], _∷_, _++_}
-use Rattle·pattern.specs.Pattern.{Pattern}
-use Rattle·pattern.specs.Tests.{sizeTest, setTest, spaceTest}
-use Rattle·numbers.specs.Format.{Format, ended, item, gate, many, encodeAll}
+use Rattle.std.specs.Prelude.{ℕ, ◌*◌, List, [], ◌∷◌, ◌++◌}
+use Rattle.pattern.specs.Pattern.{Pattern}
+use Rattle.pattern.specs.Tests.{sizeTest, setTest, spaceTest}
+use Rattle.numbers.specs.Format.{Format, ended, item, gate, many, encodeAll}
 
 abbrev pub numbersOf : Pattern → ℕ → ℕ → List ℕ
-numbersOf P x y = P .states ∷ P .letters ∷ P .finals ∷ (P .rows ++ (x ∷ y ∷ []))
+numbersOf P x y = P.states ∷ P.letters ∷ P.finals ∷ (P.rows ++ (x ∷ y ∷ []))
 
 unfoldable pub fileBytes : Pattern → ℕ → ℕ → List ℕ
 fileBytes P x y = encodeAll (numbersOf P x y)

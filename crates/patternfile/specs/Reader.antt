@@ -2,22 +2,18 @@
 --   FileOf room bytes P x y   the bytes are the file of the pattern P with the sets X and Y (`accepted-valid`, `file-of`)
 --   Reads bytes old r new     the reader's promise: the answer r, and the buffer `new` where it was `old`; nothing is left open
 --                             (`reader-determined`), what is accepted is valid (`read-valid`), and a refusal stands where the scope says (`refusal-place`)
---   ReadsFile bytes rows r    the same of the slices lent
 --   numberOf r, valuesOf r    the number of an answer, and the values returned with it (`read-honest`)
 --   IsRefused r               the answer is a refusal
-use Prim.Native.Nat.{ℕ, _*_}
-use mathlib.Core.List.{List}
-use mathlib.Core.Path.{_≡_}
-use lib.ListN.{length}
-use Rattle·lent.specs.Lent.{Slice, before, after, lay}
-use Rattle·pattern.specs.Pattern.{Pattern, patternOf}
-use Rattle·numbers.specs.Format.{got, refused, fileReading}
-use Rattle·patternfile·specs.specs.declared.PatternRead.{PatternRead}
-use Rattle·patternfile·specs.specs.declared.PatternRead.the-variants.{Done, Refused}
-use Rattle·patternfile·specs.specs.PatternFile.{numbersOf, patternFormat}
+use Rattle.std.specs.Prelude.{ℕ, ◌*◌, List, ◌≡◌, length}
+use Rattle.lent.specs.Lent.{lay}
+use Rattle.pattern.specs.Pattern.{Pattern, patternOf}
+use Rattle.numbers.specs.Format.{got, refused, fileReading}
+use Rattle.patternfile.specs.declared.PatternRead.{PatternRead}
+use Rattle.patternfile.specs.declared.PatternRead.TheVariants.{Done, Refused}
+use Rattle.patternfile.specs.PatternFile.{numbersOf, patternFormat}
 
 pub record FileOf (room : ℕ) (bytes : List ℕ) (P : Pattern) (x y : ℕ) : Type 0 where
-  pub tabled : length (P .rows) ≡ P .states * P .letters
+  pub tabled : length P.rows ≡ P.states * P.letters
   pub read : fileReading (patternFormat room) bytes ≡ got (numbersOf P x y) (length bytes)
 
 -- DONE: the rows lie over what was there, so the entries after them keep their content
@@ -34,9 +30,6 @@ pub record ReadRefused (bytes old : List ℕ) (w place : ℕ) (new : List ℕ) :
 abbrev pub Reads : List ℕ → List ℕ → PatternRead → List ℕ → Type 0
 Reads bytes old (Done n k finals x y) new = ReadDone bytes old n k finals x y new
 Reads bytes old (Refused w place) new = ReadRefused bytes old w place new
-
-abbrev pub ReadsFile : Slice → Slice → PatternRead → Type 0
-ReadsFile bytes rows r = Reads (before bytes) (before rows) r (after rows)
 
 abbrev pub numberOf : PatternRead → ℕ
 numberOf (Done n k finals x y) = 7

@@ -2,21 +2,17 @@
 --   RefusedAt room bytes w place   the reader's refusal w, for a row buffer of so many entries, stands at a place (`refusal-place`)
 --   writeLines P x y room          the writer's lines in their order (`write-lines`)
 --   readNumbers, writeNumbers      the numbers that the two refuse by (`read-number`, `write-number`)
-use Prim.Native.Nat.{ℕ, _*_, _<_, _≤_}
-use mathlib.Core.List.{List, [], _∷_}
-use mathlib.Core.Logic.{_⊎_}
-use mathlib.Core.Path.{_≡_}
-use lib.ListN.{length, take, drop}
-use Rattle·verdict.specs.Lines.{Lines}
-use Rattle·verdict.specs.Lines.Lines.{none, line}
-use Rattle·sets.specs.Sets.{Good}
-use Rattle·pattern.specs.Pattern.{Pattern}
-use Rattle·pattern.specs.Refusals.{MasksGood, shapeLines}
-use Rattle·numbers.specs.declared.Number.the-variants.{Value}
-use Rattle·numbers.specs.Numbers.{numberAt}
-use Rattle·numbers.specs.Faults.{EndsEarly, BadlyWritten}
-use Rattle·patternfile·specs.specs.PatternFile.{fileBytes}
-use Rattle·patternfile·specs.specs.Reader.{FileOf}
+use Rattle.std.specs.Prelude.{ℕ, ◌*◌, ◌<◌, ◌≤◌, List, [], ◌∷◌, ◌⊎◌, ◌≡◌, length, take, drop}
+use Rattle.verdict.specs.Lines.{Lines}
+use Rattle.verdict.specs.Lines.Lines.{none, line}
+use Rattle.sets.specs.Sets.{Good}
+use Rattle.pattern.specs.Pattern.{Pattern}
+use Rattle.pattern.specs.Refusals.{MasksGood, shapeLines}
+use Rattle.numbers.specs.declared.Number.TheVariants.{Value}
+use Rattle.numbers.specs.Numbers.{numberAt}
+use Rattle.numbers.specs.Faults.{EndsEarly, BadlyWritten}
+use Rattle.patternfile.specs.PatternFile.{fileBytes}
+use Rattle.patternfile.specs.Reader.{FileOf}
 
 pub data RefusedAt (room : ℕ) (s : List ℕ) : ℕ → ℕ → Type 0 where
   -- 10 BAD-SIZE: n stands at byte 0 and is outside its range, or k at byte 1
@@ -35,7 +31,7 @@ pub data RefusedAt (room : ℕ) (s : List ℕ) : ℕ → ℕ → Type 0 where
 -- 10, 11, 12, 14
 abbrev pub writeLines : Pattern → ℕ → ℕ → ℕ → Lines
 writeLines P x y room =
-    shapeLines P (line 12 (MasksGood P × Good (P .states) x × Good (P .states) y) (line 14 (length (fileBytes P x y) ≤ room) none))
+    shapeLines P (line 12 (MasksGood P × Good P.states x × Good P.states y) (line 14 (length (fileBytes P x y) ≤ room) none))
 
 abbrev pub readNumbers : List ℕ
 readNumbers = 10 ∷ 12 ∷ 14 ∷ 20 ∷ 21 ∷ 22 ∷ []

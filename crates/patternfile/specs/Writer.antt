@@ -3,32 +3,28 @@
 --   Allowed P x y room       what passes them all (`write-fine`)
 --   Writes P x y old r new   the writer's promise: the answer r, and the buffer `new` where it was `old`; nothing is left open (`writer-determined`),
 --                            and with the reader it goes round both ways (`read-after-write`, `write-after-read`)
---   WritesFile ..            the same of the slices lent
 --   numberOf r, countOf r    the number of an answer, and the byte count returned with it (`write-honest`)
 --   IsRefused r              the answer is a refusal
-use Prim.Native.Nat.{ℕ, _≤_}
-use mathlib.Core.List.{List, [], _∷_}
-use mathlib.Core.Path.{_≡_}
-use lib.ListN.{length}
-use Rattle·verdict.specs.declared.Verdict.{Verdict}
-use Rattle·verdict.specs.declared.Verdict.the-variants.{Fine, Against}
-use Rattle·verdict.specs.Tests.{inOrder}
-use Rattle·lent.specs.Lent.{Slice, before, after, Put}
-use Rattle·sets.specs.Sets.{Good}
-use Rattle·pattern.specs.Pattern.{Pattern, Valid, patternOf}
-use Rattle·pattern.specs.Tests.{patternTest, setTest, spaceTest}
-use Rattle·patternfile·specs.specs.declared.Written.{Written}
-use Rattle·patternfile·specs.specs.declared.Written.the-variants.{Done, Refused}
-use Rattle·patternfile·specs.specs.PatternFile.{fileBytes}
+use Rattle.std.specs.Prelude.{ℕ, ◌≤◌, List, [], ◌∷◌, ◌≡◌, length}
+use Rattle.verdict.specs.declared.Verdict.{Verdict}
+use Rattle.verdict.specs.declared.Verdict.TheVariants.{Fine, Against}
+use Rattle.verdict.specs.Tests.{inOrder}
+use Rattle.lent.specs.Lent.{Put}
+use Rattle.sets.specs.Sets.{Good}
+use Rattle.pattern.specs.Pattern.{Pattern, Valid}
+use Rattle.pattern.specs.Tests.{patternTest, setTest, spaceTest}
+use Rattle.patternfile.specs.declared.Written.{Written}
+use Rattle.patternfile.specs.declared.Written.TheVariants.{Done, Refused}
+use Rattle.patternfile.specs.PatternFile.{fileBytes}
 
 unfoldable pub writeTest : Pattern → ℕ → ℕ → ℕ → Verdict
-writeTest P x y room = inOrder (patternTest P ∷ setTest (P .states) x ∷ setTest (P .states) y ∷ spaceTest room (length (fileBytes P x y)) ∷ [])
+writeTest P x y room = inOrder (patternTest P ∷ setTest P.states x ∷ setTest P.states y ∷ spaceTest room (length (fileBytes P x y)) ∷ [])
 
 -- what the writer refuses nothing of (`write-fine`)
 pub record Allowed (P : Pattern) (x y room : ℕ) : Type 0 where
   pub valid : Valid P
-  pub good-x : Good (P .states) x
-  pub good-y : Good (P .states) y
+  pub good-x : Good P.states x
+  pub good-y : Good P.states y
   pub enough : length (fileBytes P x y) ≤ room
 
 -- DONE: the file stands at the start of the buffer, and the bytes after it keep their content
@@ -44,9 +40,6 @@ pub record WriteRefused (P : Pattern) (x y : ℕ) (old : List ℕ) (w : ℕ) (ne
 abbrev pub Writes : Pattern → ℕ → ℕ → List ℕ → Written → List ℕ → Type 0
 Writes P x y old (Done count) new = WriteDone P x y old count new
 Writes P x y old (Refused w) new = WriteRefused P x y old w new
-
-abbrev pub WritesFile : ℕ → ℕ → ℕ → Slice → ℕ → ℕ → Slice → Written → Type 0
-WritesFile n k finals rows x y out r = Writes (patternOf n k finals (before rows)) x y (before out) r (after out)
 
 abbrev pub numberOf : Written → ℕ
 numberOf (Done count) = 7

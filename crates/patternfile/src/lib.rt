@@ -1,20 +1,22 @@
 // The pattern file: n, k, finals, the n * k rows, X, Y; read and written.
+#![tactic(auto)]
+
+ghost use Rattle.std.specs.Prelude.{◌≡◌, ◌+◌, ◌*◌, ◌≤◌, length};
+ghost use Rattle.lent.specs.Lent.{Put};
+ghost use Rattle.pattern.specs.Pattern.{Sized, patternOf};
+ghost use Rattle.pattern.specs.Tests.{sizeTest, setTest};
+ghost use Rattle.numbers.specs.Numbers.{numberAt};
+ghost use Rattle.numbers.specs.Format.{heldTo, reading, many, ended};
+ghost use Rattle.patternfile.specs.PatternFile.{fileBytes};
+ghost use Rattle.patternfile.specs.Reader.{Reads};
+ghost use Rattle.patternfile.specs.Writer.{writeTest, Writes};
+ghost use Rattle.patternfile.specs.Parts.{Judges, passed, stoppedBy, Filled};
+
 use numbers::Number;
 use verdict::Verdict;
-ghost use mathlib.Core.Path.{_≡_};
-ghost use Prim.Native.Nat.{_+_, _*_, _≤_};
-ghost use lib.ListN.{length};
-ghost use Rattle·lent.specs.Lent.{before};
-ghost use Rattle·pattern.specs.Pattern.{Sized, patternOf};
-ghost use Rattle·pattern.specs.Tests.{sizeTest, setTest};
-ghost use Rattle·numbers.specs.Numbers.{numberAt};
-ghost use Rattle·numbers.specs.Format.{heldTo, reading, many, ended};
-ghost use Rattle·patternfile·specs.specs.PatternFile.{fileBytes};
-ghost use Rattle·patternfile·specs.specs.Reader.{ReadsFile};
-ghost use Rattle·patternfile·specs.specs.Writer.{writeTest, WritesFile};
-ghost use Rattle·patternfile·specs.specs.Parts.{Judges, passed, stoppedBy, Fills, PutsPattern};
 
 // What reading answers: the file's numbers, its rows being in the buffer lent; or a refusal's number and place.
+#[derive(Drop)]
 pub enum PatternRead {
     Done {
         states: usize,
@@ -27,6 +29,7 @@ pub enum PatternRead {
 }
 
 // What the first pass answers: the pattern's numbers and the place after them; or a refusal's number and place.
+#[derive(Drop)]
 pub enum PatternPart {
     Whole {
         states: usize,
@@ -40,32 +43,33 @@ pub enum PatternPart {
 }
 
 // What writing answers: how many bytes, or a refusal's number.
+#[derive(Drop)]
 pub enum Written {
     Done(usize),
     Refused(u8),
 }
 
 fn index(v: u64) -> usize
-    ensures { λ r. ⌜ r ≡ v ⌝ }
+    ensures { result ≡ v }
 {
     v as usize
 }
 
 fn wide(v: usize) -> u64
-    ensures { λ r. ⌜ r ≡ v ⌝ }
+    ensures { result ≡ v }
 {
     v as u64
 }
 
 fn product(states: usize, letters: usize) -> usize
-    requires { ⌜ Sized states letters ⌝ }
-    ensures { λ r. ⌜ r ≡ states * letters ⌝ }
+    requires { Sized states letters }
+    ensures { result ≡ states * letters }
 {
     states * letters
 }
 
 fn read_size(bytes: &[u8], at: usize, most: usize) -> Number
-    ensures { λ r. ⌜ r ≡ heldTo (sizeTest most) at (numberAt (before bytes) at) ⌝ }
+    ensures { result ≡ heldTo (sizeTest most) at (numberAt bytes.now at) }
 {
     let size = numbers::read(bytes, at);
     let Number::Value(v, next) = size else {
@@ -75,7 +79,7 @@ fn read_size(bytes: &[u8], at: usize, most: usize) -> Number
 }
 
 fn read_set(bytes: &[u8], at: usize, states: usize) -> Number
-    ensures { λ r. ⌜ r ≡ heldTo (setTest states) at (numberAt (before bytes) at) ⌝ }
+    ensures { result ≡ heldTo (setTest states) at (numberAt bytes.now at) }
 {
     let set = numbers::read(bytes, at);
     let Number::Value(v, next) = set else {
@@ -86,7 +90,7 @@ fn read_set(bytes: &[u8], at: usize, states: usize) -> Number
 
 // Judges so many sets from a place on.
 fn pass_sets(bytes: &[u8], at: usize, states: usize, count: usize) -> Number
-    ensures { λ r. ⌜ r ≡ passed count (reading (many count (setTest states) ended) (before bytes) at) ⌝ }
+    ensures { result ≡ passed count (reading (many count (setTest states) ended) bytes.now at) }
 {
     let mut left = count;
     let mut place = at;
@@ -102,7 +106,7 @@ fn pass_sets(bytes: &[u8], at: usize, states: usize, count: usize) -> Number
 }
 
 fn stopped(number: Number) -> PatternPart
-    ensures { λ r. ⌜ r ≡ stoppedBy number ⌝ }
+    ensures { result ≡ stoppedBy number }
 {
     match number {
         Number::Value(_, next) => PatternPart::Stopped(0, next),
@@ -112,7 +116,7 @@ fn stopped(number: Number) -> PatternPart
 
 // The first pass: the pattern's numbers, for a row buffer of so many entries; bytes after them are not looked at.
 pub fn judge(bytes: &[u8], room: usize) -> PatternPart
-    ensures { λ r. ⌜ Judges (before bytes) room r ⌝ }
+    ensures { Judges bytes.now room result }
 {
     let n_read = read_size(bytes, 0, 64);
     let Number::Value(n, at_letters) = n_read else {
@@ -156,8 +160,8 @@ pub fn judge(bytes: &[u8], room: usize) -> PatternPart
 
 // The second pass: so many numbers from a place on go into the rows, as far as they can be read.
 pub fn fill(bytes: &[u8], at: usize, rows: &mut [u64], count: usize)
-    requires { ⌜ count ≤ length (now rows) ⌝ }
-    ensures { λ _. ⌜ Fills bytes at count rows ⌝ }
+    requires { count ≤ length rows.old }
+    ensures { Filled bytes.now at count rows.old rows.new }
 {
     let mut i: usize = 0;
     let mut place = at;
@@ -174,7 +178,7 @@ pub fn fill(bytes: &[u8], at: usize, rows: &mut [u64], count: usize)
 
 // Reads a pattern file. n and k are one byte each, so the rows stand two bytes and the finals' bytes behind the start.
 pub fn read(bytes: &[u8], rows: &mut [u64]) -> PatternRead
-    ensures { λ r. ⌜ ReadsFile bytes rows r ⌝ }
+    ensures { Reads bytes.now rows.old result rows.new }
 {
     let part = judge(bytes, rows.len());
     match part {
@@ -205,7 +209,7 @@ pub fn read(bytes: &[u8], rows: &mut [u64]) -> PatternRead
 
 // How many bytes the pattern's numbers take.
 pub fn file_size(states: usize, letters: usize, finals: u64, rows: &[u64], x: u64, y: u64) -> usize
-    ensures { λ r. ⌜ r ≡ length (fileBytes (patternOf states letters finals (before rows)) x y) ⌝ }
+    ensures { result ≡ length (fileBytes (patternOf states letters finals rows.now) x y) }
 {
     let head = [wide(states), wide(letters), finals];
     let tail = [x, y];
@@ -222,7 +226,7 @@ fn write_test(
     y: u64,
     room: usize,
 ) -> Verdict
-    ensures { λ r. ⌜ r ≡ writeTest (patternOf states letters finals (before rows)) x y room ⌝ }
+    ensures { result ≡ writeTest (patternOf states letters finals rows.now) x y room }
 {
     let pattern = pattern::pattern_test(states, letters, finals, rows);
     let Verdict::Fine = pattern else {
@@ -250,8 +254,8 @@ pub fn put_pattern(
     x: u64,
     y: u64,
 ) -> usize
-    requires { ⌜ at + length (fileBytes (patternOf states letters finals (now rows)) x y) ≤ length (now out) ⌝ }
-    ensures { λ r. ⌜ PutsPattern out at states letters finals rows x y r ⌝ }
+    requires { at + length (fileBytes (patternOf states letters finals rows.now) x y) ≤ length out.old }
+    ensures { Put out.old at (fileBytes (patternOf states letters finals rows.now) x y) result out.new }
 {
     let head = [wide(states), wide(letters), finals];
     let starts = [x, y];
@@ -270,7 +274,7 @@ pub fn write(
     y: u64,
     out: &mut [u8],
 ) -> Written
-    ensures { λ r. ⌜ WritesFile states letters finals rows x y out r ⌝ }
+    ensures { Writes (patternOf states letters finals rows.now) x y out.old result out.new }
 {
     let test = write_test(states, letters, finals, rows, x, y, out.len());
     if let Verdict::Against(why) = test {

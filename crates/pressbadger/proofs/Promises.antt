@@ -1,74 +1,74 @@
 -- What a host is promised (specs/Promises), of every result that a contract allows: demand by demand, call by call. The content stands in the
 -- crates beneath; here it is said of what is returned and left. Assumes nothing.
-use mathlib.Core.Path.{_≡_, refl, sym, ap, _∙_, subst}
-use mathlib.Core.Logic.{_↔_, _⊎_, inl, inr}
+use mathlib.Core.Path.{◌≡◌, refl, sym, ap, ◌∙◌, subst}
+use mathlib.Core.Logic.{◌↔◌, ◌⊎◌, inl, inr}
 use mathlib.Core.Bool.{true, false}
-use mathlib.Core.List.{List, [], _∷_, map}
-use mathlib.Core.List.List·Memᴰ.{List·Memᴰ·head, List·Memᴰ·tail}
-use Prim.Native.Nat.{ℕ, zero, suc, _+_, _*_, _≤_, _<_}
+use mathlib.Core.List.{List, [], ◌∷◌, map}
+use mathlib.Core.List.Memᴰ
+use Prim.Native.Nat.{ℕ, zero, suc, ◌+◌, ◌*◌, ◌≤◌, ◌<◌}
 use native.Mathlib.Nat.{mul-le-mul}
 use native.Mathlib.Omega.{arith}
 use lib.ListN.{length, take, drop, length-map}
-use Rattle·verdict.specs.Tests.{need}
-use Rattle·verdict.specs.Lines.{Applies}
-use Rattle·verdict.proofs.Numbered.{allFrom, among-need, among-from}
-use Rattle·lent.specs.Lent.{lay}
-use Rattle·lent.proofs.Laying.{take-lay, drop-lay}
-use Rattle·sets.specs.Sets.{Good}
-use Rattle·sets.specs.Rooms.{maxRoom}
-use Rattle·pattern.specs.Pattern.{Pattern, patternOf, Valid}
-use Rattle·pattern.specs.Judge as Judge
-use Rattle·pattern.specs.Judge.{judged}
-use Rattle·pattern.specs.declared.Judged.{Judged}
-use Rattle·pattern.proofs.Judging.{judge-honest, judge-answered, judge-lines, judge-among}
-use Rattle·walk.specs.Walk.{Question, Outcome, keptOf, wordOf, Walk}
-use Rattle·walk.specs.Walk.Outcome.{Same, Different, Full}
-use Rattle·walk.specs.Columns.{Field, value, Columns, column, columnsOf, layColumns, firsts}
-use Rattle·walk.specs.Meaning.{Proper, Covers}
-use Rattle·walk.proofs.Columns.{fit-at, fit-by}
-use Rattle·comparison.specs.Answers as Comparison
-use Rattle·comparison.specs.Answers.{Lent, Call, answerOf, valuesOf, Compared}
-use Rattle·comparison.specs.Answers.Compared.{refuses, walks}
-use Rattle·comparison.specs.Meaning as OfComparison
-use Rattle·comparison.specs.Meaning.{Roomy, SameWritten}
-use Rattle·comparison.specs.declared.Answer.{Answer}
-use Rattle·comparison.proofs.Asking.{compare-fine, compare-among}
-use Rattle·comparison.proofs.Standing.{laid, firsts-laid}
-use Rattle·comparison.proofs.CompareHonest.{compare-valid, compare-honest, compare-answers}
-use Rattle·comparison.proofs.CompareRoom.{kept-is, compare-more-room, compare-room-enough, compare-never-full}
-use Rattle·comparison.proofs.CompareLessRoom.{compare-less-room}
-use Rattle·evidence.specs.Evidence as Evidence
-use Rattle·evidence.specs.Evidence.{Offer, ValidOffer, Checked}
-use Rattle·evidence.specs.Meaning as OfEvidence
-use Rattle·evidence.specs.Meaning.{Holding}
-use Rattle·evidence.specs.declared.Answer as Evidence′
-use Rattle·evidence.proofs.CheckHonest.{check-honest, valid-answered}
-use Rattle·evidence.proofs.Refusing.{check-lines, check-among}
-use Rattle·numbers.specs.Numbers.{AreBytes}
-use Rattle·patternfile.specs.PatternFile.{fileBytes}
-use Rattle·patternfile.specs.Reader as Reader
-use Rattle·patternfile.specs.Reader.{Reads}
-use Rattle·patternfile.specs.Writer as Writer
-use Rattle·patternfile.specs.Writer.{Writes}
-use Rattle·patternfile.specs.declared.PatternRead.{PatternRead}
-use Rattle·patternfile.specs.declared.Written.{Written}
-use Rattle·patternfile.proofs.Returned.{read-number, read-honest, write-number, write-honest}
-use Rattle·patternfile.proofs.Longest.{file-short}
-use Rattle·patternfile.proofs.RoundTrip.{read-after-write, write-after-read}
-use Rattle·records.specs.declared.PbRecord.{PbRecord}
-use Rattle·records.specs.declared.answers.PbCompared.{PbCompared}
-use Rattle·records.specs.declared.answers.PbChecked.{PbChecked}
-use Rattle·records.specs.Answers.{compareAnswer, ComparedLists, checkAnswer, CheckedOffer}
-use Rattle·records.specs.Records.{written, columnsIn, lentFor, callOn, ComparedRecords}
-use Rattle·records.proofs.Agreeing.{column-in, map-written, firsts-known, pb-compare-by-columns, pb-compare-from-columns}
-use Rattle·records.proofs.Offering.{offered, same-is-evidence}
-use Rattle·pressbadger·specs.specs.declared.PbJudged.{PbJudged}
-use Rattle·pressbadger·specs.specs.declared.files.PbPattern.{PbPattern}
-use Rattle·pressbadger·specs.specs.declared.files.PbWritten.{PbWritten}
-use Rattle·pressbadger·specs.specs.Checks.{offerFor}
-use Rattle·pressbadger·specs.specs.Judges.{judgeAnswer}
-use Rattle·pressbadger·specs.specs.Files.{patternAnswer, ReadPattern, writtenAnswer, WrittenPattern}
-use Rattle·pressbadger·specs.specs.Promises.{SAME, DIFFERENT, FULL, PROVED, DONE, OneOf, compareRefusals, checkRefusals, judgeRefusals, readRefusals, writeRefusals, RoomFor, linesOf, ComparedMeans, LeftRecords, LeftLists, WalkedRecords, WalkedLists, SameRecords, LessRoom, CheckedMeans, JudgedMeans, donePattern, maxRows, longestFile, PatternMeans, doneWritten, WrittenMeans}
+use Rattle.verdict.specs.Tests.{need}
+use Rattle.verdict.specs.Lines.{Applies}
+use Rattle.verdict.proofs.Numbered.{allFrom, among-need, among-from}
+use Rattle.lent.specs.Lent.{lay}
+use Rattle.lent.proofs.Laying.{take-lay, drop-lay}
+use Rattle.sets.specs.Sets.{Good}
+use Rattle.sets.specs.Rooms.{maxRoom}
+use Rattle.pattern.specs.Pattern.{Pattern, patternOf, Valid}
+use Rattle.pattern.specs.Judge as Judge
+use Rattle.pattern.specs.Judge.{judged}
+use Rattle.pattern.specs.declared.Judged.{Judged}
+use Rattle.pattern.proofs.Judging.{judge-honest, judge-answered, judge-lines, judge-among}
+use Rattle.walk.specs.Walk.{Question, Outcome, keptOf, wordOf, Walk}
+use Rattle.walk.specs.Walk.Outcome.{Same, Different, Full}
+use Rattle.walk.specs.Columns.{Field, value, Columns, column, columnsOf, layColumns, firsts}
+use Rattle.walk.specs.Meaning.{Proper, Covers}
+use Rattle.walk.proofs.Columns.{fit-at, fit-by}
+use Rattle.comparison.specs.Answers as Comparison
+use Rattle.comparison.specs.Answers.{Lent, Call, answerOf, valuesOf, Compared}
+use Rattle.comparison.specs.Answers.Compared.{refuses, walks}
+use Rattle.comparison.specs.Meaning as OfComparison
+use Rattle.comparison.specs.Meaning.{Roomy, SameWritten}
+use Rattle.comparison.specs.declared.Answer.{Answer}
+use Rattle.comparison.proofs.Asking.{compare-fine, compare-among}
+use Rattle.comparison.proofs.Standing.{laid, firsts-laid}
+use Rattle.comparison.proofs.CompareHonest.{compare-valid, compare-honest, compare-answers}
+use Rattle.comparison.proofs.CompareRoom.{kept-is, compare-more-room, compare-room-enough, compare-never-full}
+use Rattle.comparison.proofs.CompareLessRoom.{compare-less-room}
+use Rattle.evidence.specs.Evidence as Evidence
+use Rattle.evidence.specs.Evidence.{Offer, ValidOffer, Checked}
+use Rattle.evidence.specs.Meaning as OfEvidence
+use Rattle.evidence.specs.Meaning.{Holding}
+use Rattle.evidence.specs.declared.Answer as Evidence'
+use Rattle.evidence.proofs.CheckHonest.{check-honest, valid-answered}
+use Rattle.evidence.proofs.Refusing.{check-lines, check-among}
+use Rattle.numbers.specs.Numbers.{AreBytes}
+use Rattle.patternfile.specs.PatternFile.{fileBytes}
+use Rattle.patternfile.specs.Reader as Reader
+use Rattle.patternfile.specs.Reader.{Reads}
+use Rattle.patternfile.specs.Writer as Writer
+use Rattle.patternfile.specs.Writer.{Writes}
+use Rattle.patternfile.specs.declared.PatternRead.{PatternRead}
+use Rattle.patternfile.specs.declared.Written.{Written}
+use Rattle.patternfile.proofs.Returned.{read-number, read-honest, write-number, write-honest}
+use Rattle.patternfile.proofs.Longest.{file-short}
+use Rattle.patternfile.proofs.RoundTrip.{read-after-write, write-after-read}
+use Rattle.records.specs.declared.PbRecord.{PbRecord}
+use Rattle.records.specs.declared.answers.PbCompared.{PbCompared}
+use Rattle.records.specs.declared.answers.PbChecked.{PbChecked}
+use Rattle.records.specs.Answers.{compareAnswer, ComparedLists, checkAnswer, CheckedOffer}
+use Rattle.records.specs.Records.{written, columnsIn, lentFor, callOn, ComparedRecords}
+use Rattle.records.proofs.Agreeing.{column-in, map-written, firsts-known, pb-compare-by-columns, pb-compare-from-columns}
+use Rattle.records.proofs.Offering.{offered, same-is-evidence}
+use Rattle.pressbadger.specs.declared.PbJudged.{PbJudged}
+use Rattle.pressbadger.specs.declared.files.PbPattern.{PbPattern}
+use Rattle.pressbadger.specs.declared.files.PbWritten.{PbWritten}
+use Rattle.pressbadger.specs.Checks.{offerFor}
+use Rattle.pressbadger.specs.Judges.{judgeAnswer}
+use Rattle.pressbadger.specs.Files.{patternAnswer, ReadPattern, writtenAnswer, WrittenPattern}
+use Rattle.pressbadger.specs.Promises.{SAME, DIFFERENT, FULL, PROVED, DONE, OneOf, compareRefusals, checkRefusals, judgeRefusals, readRefusals, writeRefusals, RoomFor, linesOf, ComparedMeans, LeftRecords, LeftLists, WalkedRecords, WalkedLists, SameRecords, LessRoom, CheckedMeans, JudgedMeans, donePattern, maxRows, longestFile, PatternMeans, doneWritten, WrittenMeans}
 
 -- every refusal is 10 or more, so an answer with a lower number is none
 high : (numbers : List ℕ) {w : ℕ} → allFrom 10 numbers ≡ true → OneOf numbers w → 10 ≤ w
@@ -84,66 +84,66 @@ module _ {c : Call} {a : Answer} {later : Lent} (k : Compared c a later) where
     where
       to : {a : Answer} {later : Lent} → Compared c a later → OneOf compareRefusals (Comparison.numberOf a) → OfComparison.IsRefused a
       to (refuses e) m = tt
-      to (walks {o} f w) m = absurd (omega (arith, high compareRefusals refl m, compare-valid (compare-fine c .0 f) (walks f w)))
+      to (walks {o} f w) m = absurd (omega (arith, high compareRefusals refl m, compare-valid ((compare-fine c).0 f) (walks f w)))
 
       fro : {a : Answer} {later : Lent} → Compared c a later → OfComparison.IsRefused a → OneOf compareRefusals (Comparison.numberOf a)
-      fro (refuses e) i = compare-among c .among _ e
-      fro (walks {o} f w) i = absurd (compare-honest (walks {o = o} f w) .refused .0 i (compare-fine c .0 f))
+      fro (refuses e) i = (compare-among c).among _ e
+      fro (walks {o} f w) i = absurd ((compare-honest (walks {o = o} f w)).refused.0 i ((compare-fine c).0 f))
 
-  means : ComparedMeans (c .question) (c .room) (Roomy (c .room) (c .lent)) (compareAnswer a) (later .sequence)
+  means : ComparedMeans c.question c.room (Roomy c.room c.lent) (compareAnswer a) later.sequence
   means =
       let h = compare-honest k in
       record {
         answered = λ p. three (Comparison.numberOf a) (compare-valid p k);
-        refused = (λ m. h .refused .0 (named .0 m), λ f. named .1 (h .refused .1 f));
-        refused-by = λ w. (λ p. h .refused-by w .0 (named .0 (p .0), p .1), λ p. let (i, e) = h .refused-by w .1 p in (named .1 i, e));
-        same = h .same;
-        different = h .different;
-        full = h .full;
-        full-room = h .room-kept;
-        all-examined = h .all-examined;
-        examined-fits = h .examined-fits;
-        kept-fits = h .kept-fits;
-        length-fits = h .length-fits;
+        refused = (λ m. h.refused.0 (named.0 m), λ f. named.1 (h.refused.1 f));
+        refused-by = λ w. (λ p. (h.refused-by w).0 (named.0 p.0, p.1), λ p. let (i, e) = (h.refused-by w).1 p in (named.1 i, e));
+        same = h.same;
+        different = h.different;
+        full = h.full;
+        full-room = h.room-kept;
+        all-examined = h.all-examined;
+        examined-fits = h.examined-fits;
+        kept-fits = h.kept-fits;
+        length-fits = h.length-fits;
         no-length = no-length a;
       }
     where
       three : (n : ℕ) → n ≤ 2 → OneOf (0 ∷ 1 ∷ 2 ∷ []) n
-      three zero h = List·Memᴰ·head refl
-      three (suc zero) h = List·Memᴰ·tail (List·Memᴰ·head refl)
-      three (suc (suc zero)) h = List·Memᴰ·tail (List·Memᴰ·tail (List·Memᴰ·head refl))
+      three zero h = Memᴰ.head refl
+      three (suc zero) h = Memᴰ.tail (Memᴰ.head refl)
+      three (suc (suc zero)) h = Memᴰ.tail (Memᴰ.tail (Memᴰ.head refl))
       three (suc (suc (suc n))) h = absurd (omega (arith, h))
 
-      no-length : (a : Answer) → (Comparison.numberOf a ≡ 1 → ⊥) → valuesOf a .length ≡ 0
+      no-length : (a : Answer) → (Comparison.numberOf a ≡ 1 → ⊥) → (valuesOf a).length ≡ 0
       no-length (Answer.Same kept examined) f = refl
       no-length (Answer.Different kept examined length) f = absurd (f refl)
       no-length (Answer.Full kept examined) f = refl
       no-length (Answer.Refused number) f = refl
 
-length-is : (o : Outcome) → valuesOf (answerOf o) .length ≡ length (wordOf o)
+length-is : (o : Outcome) → (valuesOf (answerOf o)).length ≡ length (wordOf o)
 length-is (Same kept e) = refl
 length-is (Different kept e w) = refl
 length-is (Full kept e) = refl
 
-left : {c : Call} {a : Answer} {later : Lent} → Compared c a later → LeftLists (c .lent) (compareAnswer a) later
+left : {c : Call} {a : Answer} {later : Lent} → Compared c a later → LeftLists c.lent (compareAnswer a) later
 left {c} (refuses e) = record { quiet = λ m. (refl, refl); other-numbers = λ x. refl; other-bytes = refl }
 left {c} (walks {o} f w) =
     record {
-      quiet = λ m. absurd (compare-honest (walks {o = o} f w) .refused .0 (named (walks {o = o} f w) .0 m) (compare-fine c .0 f));
-      other-numbers = λ x. ap (drop (valuesOf (answerOf o) .kept)) (laid (keptOf o) (c .lent .columns) x)
-          ∙ drop-lay (map (value x) (keptOf o)) (column x (c .lent .columns)) (valuesOf (answerOf o) .kept) (length-map (keptOf o) (value x) ∙ sym (kept-is o));
-      other-bytes = drop-lay (wordOf o) (c .lent .sequence) (valuesOf (answerOf o) .length) (sym (length-is o));
+      quiet = λ m. absurd ((compare-honest (walks {o = o} f w)).refused.0 ((named (walks {o = o} f w)).0 m) ((compare-fine c).0 f));
+      other-numbers = λ x. ap (drop (valuesOf (answerOf o)).kept) (laid (keptOf o) c.lent.columns x)
+          ∙ drop-lay (map (value x) (keptOf o)) (column x c.lent.columns) (valuesOf (answerOf o)).kept (length-map (keptOf o) (value x) ∙ sym (kept-is o));
+      other-bytes = drop-lay (wordOf o) c.lent.sequence (valuesOf (answerOf o)).length (sym (length-is o));
     }
 
-walked : {c : Call} {a : Answer} {later : Lent} → Compared c a later → (OfComparison.IsRefused a → ⊥) → WalkedLists (c .question) (c .room) (compareAnswer a) later
+walked : {c : Call} {a : Answer} {later : Lent} → Compared c a later → (OfComparison.IsRefused a → ⊥) → WalkedLists c.question c.room (compareAnswer a) later
 walked (refuses e) n = absurd (n tt)
 walked {c} (walks {o} f w) n =
     record {
       outcome = o;
       walk = w;
       numbers = refl;
-      columns = rw (kept-is o) (firsts-laid (keptOf o) (c .lent .columns));
-      sequence = take-lay (wordOf o) (c .lent .sequence) (valuesOf (answerOf o) .length) (sym (length-is o));
+      columns = rw (kept-is o) (firsts-laid (keptOf o) c.lent.columns);
+      sequence = take-lay (wordOf o) c.lent.sequence (valuesOf (answerOf o)).length (sym (length-is o));
     }
 
 -- ---- pb_compare_lists
@@ -154,49 +154,50 @@ pb-compare-lists-answers c = let (a, later, k) = compare-answers c in (compareAn
 
 module _ {c : Call} {r : PbCompared} {later : Lent} (k : ComparedLists c r later) where
   -- it is honest, and refuses by number
-  pub pb-compare-lists-means : ComparedMeans (c .question) (c .room) (Roomy (c .room) (c .lent)) r (later .sequence)
-  pb-compare-lists-means = rw (k .answers) (means (k .compared))
+  pub pb-compare-lists-means : ComparedMeans c.question c.room (Roomy c.room c.lent) r later.sequence
+  pb-compare-lists-means = rw k.answers (means k.compared)
 
   -- it is quiet, and touches nothing that is not named
-  pub pb-compare-lists-leaves : LeftLists (c .lent) r later
-  pb-compare-lists-leaves = rw (k .answers) (left (k .compared))
+  pub pb-compare-lists-leaves : LeftLists c.lent r later
+  pb-compare-lists-leaves = rw k.answers (left k.compared)
 
-  is-refused : OfComparison.IsRefused (k .answer) → OneOf compareRefusals (r .answer)
-  is-refused i = rw (k .answers) (named (k .compared) .1 i)
+  is-refused : OfComparison.IsRefused k.answer → OneOf compareRefusals r.answer
+  is-refused i = rw k.answers ((named k.compared).1 i)
 
-  pub pb-compare-lists-walks : (OneOf compareRefusals (r .answer) → ⊥) → WalkedLists (c .question) (c .room) r later
-  pb-compare-lists-walks n = rw (k .answers) (walked (k .compared) (λ i. n (is-refused i)))
+  pub pb-compare-lists-walks : (OneOf compareRefusals r.answer → ⊥) → WalkedLists c.question c.room r later
+  pb-compare-lists-walks n = rw k.answers (walked k.compared (λ i. n (is-refused i)))
 
   -- room enough, by a list that has every set reached from either start: fewer records are kept, and a room of one less is never FULL
-  pub pb-compare-lists-room-enough : {sets : List ℕ} → Covers (c .question) sets → r .kept < length sets
-  pb-compare-lists-room-enough covers = rw (k .answers) (compare-room-enough covers (k .compared))
+  pub pb-compare-lists-room-enough : {sets : List ℕ} → Covers c.question sets → r.kept < length sets
+  pb-compare-lists-room-enough covers = rw k.answers (compare-room-enough covers k.compared)
 
-  pub pb-compare-lists-never-full : {sets : List ℕ} → Covers (c .question) sets → length sets ≤ c .room + 1 → r .answer ≡ FULL → ⊥
-  pb-compare-lists-never-full covers enough e = compare-never-full covers enough (k .compared) (sym (ap (λ (z : PbCompared). z .answer) (k .answers)) ∙ e)
+  pub pb-compare-lists-never-full : {sets : List ℕ} → Covers c.question sets → length sets ≤ c.room + 1 → r.answer ≡ FULL → ⊥
+  pb-compare-lists-never-full covers enough e = compare-never-full covers enough k.compared (sym (ap (λ (z : PbCompared). z.answer) k.answers) ∙ e)
 
 settled : {w : ℕ} → OneOf (SAME ∷ DIFFERENT ∷ []) w → w ≤ 1
-settled (List·Memᴰ·head e) = omega (arith, e)
-settled (List·Memᴰ·tail (List·Memᴰ·head e)) = omega (arith, e)
+settled (Memᴰ.head e) = omega (arith, e)
+settled (Memᴰ.tail (Memᴰ.head e)) = omega (arith, e)
+settled (Memᴰ.tail (Memᴰ.tail x)) = elim x [ ]
 
 abbrev callIn : Question → ℕ → Lent → Call
 callIn Q room lent = record { question = Q; room = room; lent = lent }
 
-module _ {Q : Question} {room more : ℕ} {lent lent′ : Lent} {r s : PbCompared} {l m : Lent} (le : room ≤ more)
-    (k : ComparedLists (callIn Q room lent) r l) (k′ : ComparedLists (callIn Q more lent′) s m) where
+module _ {Q : Question} {room more : ℕ} {lent lent' : Lent} {r s : PbCompared} {l m : Lent} (le : room ≤ more)
+    (k : ComparedLists (callIn Q room lent) r l) (k' : ComparedLists (callIn Q more lent') s m) where
   -- more room, unless the larger call is refused: SAME and DIFFERENT stay, number for number, record for record and letter for letter
-  pub pb-compare-lists-more-room : Roomy more lent′ → OneOf (SAME ∷ DIFFERENT ∷ []) (r .answer) → (r ≡ s) × SameWritten (r .kept) (r .length) l m
+  pub pb-compare-lists-more-room : Roomy more lent' → OneOf (SAME ∷ DIFFERENT ∷ []) r.answer → (r ≡ s) × SameWritten r.kept r.length l m
   pb-compare-lists-more-room roomy h =
-      let low : Comparison.numberOf (k .answer) ≤ 1 = settled (rw (k .answers) at h) in
-      let (e, same) = compare-more-room le roomy (k .compared) (k′ .compared) low in
-      (k .answers ∙ ap compareAnswer e ∙ sym (k′ .answers), rw (k .answers) same)
+      let low : Comparison.numberOf k.answer ≤ 1 = settled (rw k.answers at h) in
+      let (e, same) = compare-more-room le roomy k.compared k'.compared low in
+      (k.answers ∙ ap compareAnswer e ∙ sym k'.answers, rw k.answers same)
 
   -- less room
-  pub pb-compare-lists-less-room : Roomy room lent → (OneOf compareRefusals (s .answer) → ⊥)
-      → LessRoom (Q .pattern .letters) room s (m .columns) (λ (kept length : ℕ). SameWritten kept length l m) r
+  pub pb-compare-lists-less-room : Roomy room lent → (OneOf compareRefusals s.answer → ⊥)
+      → LessRoom Q.pattern.letters room s m.columns (λ (kept length : ℕ). SameWritten kept length l m) r
   pb-compare-lists-less-room roomy n =
-      let less = compare-less-room le roomy (k .compared) (k′ .compared) (λ i. n (is-refused k′ i)) in
-      rw (k .answers, k′ .answers)
-      (record { same = λ h. let (e, same) = less .same h in (ap compareAnswer e, same); full = λ h. let (e, same) = less .full h in (ap compareAnswer e, same) })
+      let less = compare-less-room le roomy k.compared k'.compared (λ i. n (is-refused k' i)) in
+      rw (k.answers, k'.answers)
+      (record { same = λ h. let (e, same) = less.same h in (ap compareAnswer e, same); full = λ h. let (e, same) = less.full h in (ap compareAnswer e, same) })
 
 -- ---- pb_compare, and pb_compare_default at the default room
 
@@ -211,31 +212,31 @@ pb-compare-answers Q room records sequence =
 -- the room in the list's own words
 roomy : {room : ℕ} {records : List PbRecord} {sequence : List ℕ} → Roomy room (lentFor records sequence) ↔ RoomFor room records sequence
 roomy {records = records} = (
-  λ r. record { most = r .most; records-fit = omega (arith, fit-at (r .columns-fit) Field.left, column-in records Field.left); sequence-fits = r .sequence-fits },
-  λ r. record { most = r .most; columns-fit = fit-by (λ x. omega (arith, r .records-fit, column-in records x)); sequence-fits = r .sequence-fits },
+  λ r. record { most = r.most; records-fit = omega (arith, fit-at r.columns-fit Field.left, column-in records Field.left); sequence-fits = r.sequence-fits },
+  λ r. record { most = r.most; columns-fit = fit-by (λ x. omega (arith, r.records-fit, column-in records x)); sequence-fits = r.sequence-fits },
 )
 
 lines-by : (Q : Question) {A B : Type 0} {w : ℕ} → A ↔ B → Applies (linesOf Q A) w → Applies (linesOf Q B) w
 lines-by Q e (inl p) = inl p
 lines-by Q e (inr (s, inl p)) = inr (s, inl p)
-lines-by Q e (inr (s, inr (t, inl (n, p)))) = inr (s, inr (t, inl (λ b. n (e .1 b), p)))
-lines-by Q e (inr (s, inr (t, inr (a, p)))) = inr (s, inr (t, inr (e .0 a, p)))
+lines-by Q e (inr (s, inr (t, inl (n, p)))) = inr (s, inr (t, inl (λ b. n (e.1 b), p)))
+lines-by Q e (inr (s, inr (t, inr (a, p)))) = inr (s, inr (t, inr (e.0 a, p)))
 
 means-by : {Q : Question} {room : ℕ} {A B : Type 0} {r : PbCompared} {word : List ℕ} → A ↔ B → ComparedMeans Q room A r word → ComparedMeans Q room B r word
 means-by {Q} e m =
     record {
-      answered = λ p. m .answered (p .0, e .1 (p .1));
-      refused = (λ i p. m .refused .0 i (p .0, e .1 (p .1)), λ f. m .refused .1 (λ p. f (p .0, e .0 (p .1))));
-      refused-by = λ w. (λ p. lines-by Q e (m .refused-by w .0 p), λ p. m .refused-by w .1 (lines-by Q (e .1, e .0) p));
-      same = m .same;
-      different = m .different;
-      full = (λ z. let ((p, a), g) = m .full .0 z in ((p, e .0 a), g), λ p. m .full .1 ((p .0 .0, e .1 (p .0 .1)), p .1));
-      full-room = m .full-room;
-      all-examined = m .all-examined;
-      examined-fits = m .examined-fits;
-      kept-fits = m .kept-fits;
-      length-fits = m .length-fits;
-      no-length = m .no-length;
+      answered = λ p. m.answered (p.0, e.1 p.1);
+      refused = (λ i p. m.refused.0 i (p.0, e.1 p.1), λ f. m.refused.1 (λ p. f (p.0, e.0 p.1)));
+      refused-by = λ w. (λ p. lines-by Q e ((m.refused-by w).0 p), λ p. (m.refused-by w).1 (lines-by Q (e.1, e.0) p));
+      same = m.same;
+      different = m.different;
+      full = (λ z. let ((p, a), g) = m.full.0 z in ((p, e.0 a), g), λ p. m.full.1 ((p.0.0, e.1 p.0.1), p.1));
+      full-room = m.full-room;
+      all-examined = m.all-examined;
+      examined-fits = m.examined-fits;
+      kept-fits = m.kept-fits;
+      length-fits = m.length-fits;
+      no-length = m.no-length;
     }
 
 module _ {Q : Question} {room : ℕ} {records : List PbRecord} {sequence : List ℕ} {r : PbCompared} {later : List PbRecord} {word : List ℕ} where
@@ -244,10 +245,10 @@ module _ {Q : Question} {room : ℕ} {records : List PbRecord} {sequence : List 
   pb-compare-means k = means-by roomy (pb-compare-lists-means (pb-compare-by-columns k))
 
   -- room enough
-  pub pb-compare-room-enough : {sets : List ℕ} → ComparedRecords Q room records sequence r later word → Covers Q sets → r .kept < length sets
+  pub pb-compare-room-enough : {sets : List ℕ} → ComparedRecords Q room records sequence r later word → Covers Q sets → r.kept < length sets
   pb-compare-room-enough k covers = pb-compare-lists-room-enough (pb-compare-by-columns k) covers
 
-  pub pb-compare-never-full : {sets : List ℕ} → ComparedRecords Q room records sequence r later word → Covers Q sets → length sets ≤ room + 1 → r .answer ≡ FULL → ⊥
+  pub pb-compare-never-full : {sets : List ℕ} → ComparedRecords Q room records sequence r later word → Covers Q sets → length sets ≤ room + 1 → r.answer ≡ FULL → ⊥
   pb-compare-never-full k covers enough e = pb-compare-lists-never-full (pb-compare-by-columns k) covers enough e
 
 module _ {Q : Question} {room : ℕ} {records : List PbRecord} {sequence : List ℕ} where
@@ -255,79 +256,79 @@ module _ {Q : Question} {room : ℕ} {records : List PbRecord} {sequence : List 
   pub pb-compare-leaves : {r : PbCompared} {later : List PbRecord} {word : List ℕ} → ComparedRecords Q room records sequence r later word → LeftRecords records sequence r later word
   pb-compare-leaves (ComparedRecords.refuses e) = record { quiet = λ m. (refl, refl, refl); other-records = refl; other-bytes = refl }
   pb-compare-leaves (ComparedRecords.walks {o} f w) =
-      let low : Comparison.numberOf (answerOf o) ≤ 2 = compare-valid (compare-fine (callOn Q room records sequence) .0 f) (walks f w) in
+      let low : Comparison.numberOf (answerOf o) ≤ 2 = compare-valid ((compare-fine (callOn Q room records sequence)).0 f) (walks f w) in
       record {
         quiet = λ m. absurd (omega (arith, high compareRefusals refl m, low));
-        other-records = drop-lay (map written (keptOf o)) records (valuesOf (answerOf o) .kept) (length-map (keptOf o) written ∙ sym (kept-is o));
-        other-bytes = drop-lay (wordOf o) sequence (valuesOf (answerOf o) .length) (sym (length-is o));
+        other-records = drop-lay (map written (keptOf o)) records (valuesOf (answerOf o)).kept (length-map (keptOf o) written ∙ sym (kept-is o));
+        other-bytes = drop-lay (wordOf o) sequence (valuesOf (answerOf o)).length (sym (length-is o));
       }
 
   pub pb-compare-walks : {r : PbCompared} {later : List PbRecord} {word : List ℕ} → ComparedRecords Q room records sequence r later word
-      → (OneOf compareRefusals (r .answer) → ⊥) → WalkedRecords Q room r later word
-  pb-compare-walks (ComparedRecords.refuses e) n = absurd (n (compare-among _ .among _ e))
+      → (OneOf compareRefusals r.answer → ⊥) → WalkedRecords Q room r later word
+  pb-compare-walks (ComparedRecords.refuses e) n = absurd (n ((compare-among _).among _ e))
   pb-compare-walks (ComparedRecords.walks {o} f w) n =
       record {
         outcome = o;
         walk = w;
         numbers = refl;
-        records = take-lay (map written (keptOf o)) records (valuesOf (answerOf o) .kept) (length-map (keptOf o) written ∙ sym (kept-is o));
-        sequence = take-lay (wordOf o) sequence (valuesOf (answerOf o) .length) (sym (length-is o));
+        records = take-lay (map written (keptOf o)) records (valuesOf (answerOf o)).kept (length-map (keptOf o) written ∙ sym (kept-is o));
+        sequence = take-lay (wordOf o) sequence (valuesOf (answerOf o)).length (sym (length-is o));
       }
 
-same-records : {kept length : ℕ} {later later′ : List PbRecord} {word word′ : List ℕ} → SameWritten kept length (lentFor later word) (lentFor later′ word′)
-    → SameRecords kept length later word later′ word′
-same-records {kept} {later = later} {later′} s = record { records = firsts-known kept later later′ (s .columns); sequence = s .sequence }
+same-records : {kept length : ℕ} {later later' : List PbRecord} {word word' : List ℕ} → SameWritten kept length (lentFor later word) (lentFor later' word')
+    → SameRecords kept length later word later' word'
+same-records {kept} {later = later} {later'} s = record { records = firsts-known kept later later' s.columns; sequence = s.sequence }
 
-module _ {Q : Question} {room more : ℕ} {records records′ : List PbRecord} {sequence sequence′ : List ℕ} {r s : PbCompared} {later later′ : List PbRecord} {word word′ : List ℕ}
-    (le : room ≤ more) (k : ComparedRecords Q room records sequence r later word) (k′ : ComparedRecords Q more records′ sequence′ s later′ word′) where
+module _ {Q : Question} {room more : ℕ} {records records' : List PbRecord} {sequence sequence' : List ℕ} {r s : PbCompared} {later later' : List PbRecord} {word word' : List ℕ}
+    (le : room ≤ more) (k : ComparedRecords Q room records sequence r later word) (k' : ComparedRecords Q more records' sequence' s later' word') where
   -- more room, unless the larger call is refused
-  pub pb-compare-more-room : RoomFor more records′ sequence′ → OneOf (SAME ∷ DIFFERENT ∷ []) (r .answer) → (r ≡ s) × SameRecords (r .kept) (r .length) later word later′ word′
+  pub pb-compare-more-room : RoomFor more records' sequence' → OneOf (SAME ∷ DIFFERENT ∷ []) r.answer → (r ≡ s) × SameRecords r.kept r.length later word later' word'
   pb-compare-more-room fits h =
-      let (e, same) = pb-compare-lists-more-room le (pb-compare-by-columns k) (pb-compare-by-columns k′) (roomy .1 fits) h in (e, same-records same)
+      let (e, same) = pb-compare-lists-more-room le (pb-compare-by-columns k) (pb-compare-by-columns k') (roomy.1 fits) h in (e, same-records same)
 
   -- less room
-  pub pb-compare-less-room : RoomFor room records sequence → (OneOf compareRefusals (s .answer) → ⊥)
-      → LessRoom (Q .pattern .letters) room s (columnsIn later′) (λ (kept length : ℕ). SameRecords kept length later word later′ word′) r
+  pub pb-compare-less-room : RoomFor room records sequence → (OneOf compareRefusals s.answer → ⊥)
+      → LessRoom Q.pattern.letters room s (columnsIn later') (λ (kept length : ℕ). SameRecords kept length later word later' word') r
   pb-compare-less-room fits n =
-      let less = pb-compare-lists-less-room le (pb-compare-by-columns k) (pb-compare-by-columns k′) (roomy .1 fits) n in
+      let less = pb-compare-lists-less-room le (pb-compare-by-columns k) (pb-compare-by-columns k') (roomy.1 fits) n in
       record {
-        same = λ h. let (e, same) = less .same h in (e, same-records same);
-        full = λ h. let (e, same) = less .full h in (e, same-records same);
+        same = λ h. let (e, same) = less.same h in (e, same-records same);
+        full = λ h. let (e, same) = less.full h in (e, same-records same);
       }
 
 -- ---- pb_check, and pb_check_records at the two sides of the records
 
-module _ {o : Offer} {a : Evidence′.Answer} (k : Checked o a) where
+module _ {o : Offer} {a : Evidence'.Answer} (k : Checked o a) where
   named-check : OneOf checkRefusals (Evidence.numberOf a) ↔ OfEvidence.IsRefused a
-  named-check = (λ m. to a (high checkRefusals refl m), λ i. check-among o .among _ (check-lines o .against _ .1 (check-honest k .refused-by _ .0 (i, refl))))
+  named-check = (λ m. to a (high checkRefusals refl m), λ i. (check-among o).among _ (((check-lines o).against _).1 (((check-honest k).refused-by _).0 (i, refl))))
     where
-      to : (a : Evidence′.Answer) → 10 ≤ Evidence.numberOf a → OfEvidence.IsRefused a
-      to Evidence′.the-variants.Proved h = omega (arith, h)
-      to (Evidence′.the-variants.NotProved place) h = omega (arith, h)
-      to (Evidence′.the-variants.Refused w) h = tt
+      to : (a : Evidence'.Answer) → 10 ≤ Evidence.numberOf a → OfEvidence.IsRefused a
+      to Evidence'.TheVariants.Proved h = omega (arith, h)
+      to (Evidence'.TheVariants.NotProved place) h = omega (arith, h)
+      to (Evidence'.TheVariants.Refused w) h = tt
 
   check-means : CheckedMeans o (checkAnswer a)
   check-means =
       let h = check-honest k in
       record {
         answered = λ v. two (valid-answered v k);
-        refused = (λ m. h .refused .0 (named-check .0 m), λ f. named-check .1 (h .refused .1 f));
-        refused-by = λ w. (λ p. h .refused-by w .0 (named-check .0 (p .0), p .1), λ p. let (i, e) = h .refused-by w .1 p in (named-check .1 i, e));
-        proved = h .proved;
-        same = h .same;
-        not-proved = h .not-proved;
-        no-place = h .no-place;
+        refused = (λ m. h.refused.0 (named-check.0 m), λ f. named-check.1 (h.refused.1 f));
+        refused-by = λ w. (λ p. (h.refused-by w).0 (named-check.0 p.0, p.1), λ p. let (i, e) = (h.refused-by w).1 p in (named-check.1 i, e));
+        proved = h.proved;
+        same = h.same;
+        not-proved = h.not-proved;
+        no-place = h.no-place;
       }
     where
       two : {w : ℕ} → (w ≡ 5) ⊎ (w ≡ 6) → OneOf (5 ∷ 6 ∷ []) w
-      two (inl e) = List·Memᴰ·head e
-      two (inr e) = List·Memᴰ·tail (List·Memᴰ·head e)
+      two (inl e) = Memᴰ.head e
+      two (inr e) = Memᴰ.tail (Memᴰ.head e)
 
 pub pb-check-means : {o : Offer} {r : PbChecked} → CheckedOffer o r → CheckedMeans o r
-pb-check-means k = rw (k .answers) (check-means (k .checked))
+pb-check-means k = rw k.answers (check-means k.checked)
 
 -- what SAME left, where it kept a pair, is evidence that holds
-evident : {Q : Question} {room : ℕ} → Proper Q → room ≤ maxRoom → (o : Outcome) → Walk Q room o → Comparison.numberOf (answerOf o) ≡ SAME → 0 < valuesOf (answerOf o) .kept
+evident : {Q : Question} {room : ℕ} → Proper Q → room ≤ maxRoom → (o : Outcome) → Walk Q room o → Comparison.numberOf (answerOf o) ≡ SAME → 0 < (valuesOf (answerOf o)).kept
     → ValidOffer (offered Q (keptOf o)) × Holding (offered Q (keptOf o))
 evident proper most (Same kept e) w z some = same-is-evidence proper most w some
 evident proper most (Different kept e u) w z some = absurd (omega (arith, z))
@@ -335,27 +336,27 @@ evident proper most (Full kept e) w z some = absurd (omega (arith, z))
 
 -- so pb_check_records answers PROVED to the first `kept` records
 pub pb-check-records-after-same : {Q : Question} {room : ℕ} {records : List PbRecord} {sequence : List ℕ} {r : PbCompared} {later : List PbRecord} {word : List ℕ} {s : PbChecked}
-    → ComparedRecords Q room records sequence r later word → r .answer ≡ SAME → 0 < r .kept → CheckedOffer (offerFor Q (columnsIn (take (r .kept) later))) s → s .answer ≡ PROVED
-pb-check-records-after-same (ComparedRecords.refuses e) z some k = absurd (omega (arith, high compareRefusals refl (compare-among _ .among _ e), z))
+    → ComparedRecords Q room records sequence r later word → r.answer ≡ SAME → 0 < r.kept → CheckedOffer (offerFor Q (columnsIn (take r.kept later))) s → s.answer ≡ PROVED
+pb-check-records-after-same (ComparedRecords.refuses e) z some k = absurd (omega (arith, high compareRefusals refl ((compare-among _).among _ e), z))
 pb-check-records-after-same {Q} {room} {records} {sequence} (ComparedRecords.walks {o} f w) z some k =
-    let (proper, fits) = compare-fine (callOn Q room records sequence) .0 f in
-    let first = take-lay (map written (keptOf o)) records (valuesOf (answerOf o) .kept) (length-map (keptOf o) written ∙ sym (kept-is o)) in
-    pb-check-means k .proved .1
-    (rw (first, map-written Field.left (keptOf o), map-written Field.right (keptOf o)) (evident proper (fits .most) o w z some))
+    let (proper, fits) = (compare-fine (callOn Q room records sequence)).0 f in
+    let first = take-lay (map written (keptOf o)) records (valuesOf (answerOf o)).kept (length-map (keptOf o) written ∙ sym (kept-is o)) in
+    (pb-check-means k).proved.1
+    (rw (first, map-written Field.left (keptOf o), map-written Field.right (keptOf o)) (evident proper fits.most o w z some))
 
 -- and pb_check to their two sides
-pub pb-check-after-same : {c : Call} {r : PbCompared} {later : Lent} {s : PbChecked} → ComparedLists c r later → r .answer ≡ SAME → 0 < r .kept
-    → CheckedOffer (offerFor (c .question) (firsts (r .kept) (later .columns))) s → s .answer ≡ PROVED
-pb-check-after-same {c} {r} {later} {s} k z some q = from (k .compared) (rw (k .answers) at z) (rw (k .answers) at some) (rw (k .answers) at q)
+pub pb-check-after-same : {c : Call} {r : PbCompared} {later : Lent} {s : PbChecked} → ComparedLists c r later → r.answer ≡ SAME → 0 < r.kept
+    → CheckedOffer (offerFor c.question (firsts r.kept later.columns)) s → s.answer ≡ PROVED
+pb-check-after-same {c} {r} {later} {s} k z some q = from k.compared (rw k.answers at z) (rw k.answers at some) (rw k.answers at q)
   where
-    from : {a : Answer} {later : Lent} → Compared c a later → Comparison.numberOf a ≡ SAME → 0 < valuesOf a .kept
-        → CheckedOffer (offerFor (c .question) (firsts (valuesOf a .kept) (later .columns))) s → s .answer ≡ PROVED
-    from (refuses e) z some q = absurd (omega (arith, high compareRefusals refl (compare-among c .among _ e), z))
+    from : {a : Answer} {later : Lent} → Compared c a later → Comparison.numberOf a ≡ SAME → 0 < (valuesOf a).kept
+        → CheckedOffer (offerFor c.question (firsts (valuesOf a).kept later.columns)) s → s.answer ≡ PROVED
+    from (refuses e) z some q = absurd (omega (arith, high compareRefusals refl ((compare-among c).among _ e), z))
     from (walks {o} f w) z some q =
-        let (proper, fits) = compare-fine c .0 f in
-        let n = valuesOf (answerOf o) .kept in
-        let first : firsts n (layColumns (keptOf o) (c .lent .columns)) ≡ columnsOf (keptOf o) = rw (kept-is o) (firsts-laid (keptOf o) (c .lent .columns)) in
-        pb-check-means (subst (λ (u : Columns). CheckedOffer (offerFor (c .question) u) s) first q) .proved .1 (evident proper (fits .most) o w z some)
+        let (proper, fits) = (compare-fine c).0 f in
+        let n = (valuesOf (answerOf o)).kept in
+        let first : firsts n (layColumns (keptOf o) c.lent.columns) ≡ columnsOf (keptOf o) = rw (kept-is o) (firsts-laid (keptOf o) c.lent.columns) in
+        (pb-check-means (subst (λ (u : Columns). CheckedOffer (offerFor c.question u) s) first q)).proved.1 (evident proper fits.most o w z some)
 
 -- ---- pb_judge
 
@@ -363,7 +364,7 @@ module _ (P : Pattern) (set : ℕ) (sequence : List ℕ) where
   named-judge : OneOf judgeRefusals (Judge.numberOf (judged P set sequence)) ↔ Judge.IsRefused (judged P set sequence)
   named-judge = (
     λ m. to (judged P set sequence) (high judgeRefusals refl m),
-    λ i. judge-among P set sequence .among _ (judge-lines P set sequence .against _ .1 (judge-honest P set sequence refl .refused-by _ .0 (i, refl))),
+    λ i. (judge-among P set sequence).among _ (((judge-lines P set sequence).against _).1 (((judge-honest P set sequence refl).refused-by _).0 (i, refl))),
   )
     where
       to : (j : Judged) → 10 ≤ Judge.numberOf j → Judge.IsRefused j
@@ -376,15 +377,15 @@ module _ (P : Pattern) (set : ℕ) (sequence : List ℕ) where
       let h = judge-honest P set sequence refl in
       record {
         answered = λ q. two (judge-answered P set sequence refl q);
-        refused = (λ m. h .refused .0 (named-judge .0 m), λ f. named-judge .1 (h .refused .1 f));
-        refused-by = λ w. (λ p. h .refused-by w .0 (named-judge .0 (p .0), p .1), λ p. let (i, e) = h .refused-by w .1 p in (named-judge .1 i, e));
-        accept = h .accept;
-        reject = h .reject;
+        refused = (λ m. h.refused.0 (named-judge.0 m), λ f. named-judge.1 (h.refused.1 f));
+        refused-by = λ w. (λ p. (h.refused-by w).0 (named-judge.0 p.0, p.1), λ p. let (i, e) = (h.refused-by w).1 p in (named-judge.1 i, e));
+        accept = h.accept;
+        reject = h.reject;
       }
     where
       two : {w : ℕ} → (w ≡ 3) ⊎ (w ≡ 4) → OneOf (3 ∷ 4 ∷ []) w
-      two (inl e) = List·Memᴰ·head e
-      two (inr e) = List·Memᴰ·tail (List·Memᴰ·head e)
+      two (inl e) = Memᴰ.head e
+      two (inr e) = Memᴰ.tail (Memᴰ.head e)
 
   pub pb-judge-means : {r : PbJudged} → r ≡ judgeAnswer (judged P set sequence) → JudgedMeans P set sequence r
   pb-judge-means e = rw e judge-means
@@ -394,95 +395,95 @@ module _ (P : Pattern) (set : ℕ) (sequence : List ℕ) where
 module _ {bytes : List ℕ} (are : AreBytes bytes) (old : List ℕ) where
   named-read : (r : PatternRead) (new : List ℕ) → Reads bytes old r new → OneOf readRefusals (Reader.numberOf r) ↔ Reader.IsRefused r
   named-read (PatternRead.Done n k finals x y) new h = (λ m. omega (arith, high readRefusals refl m), λ i. absurd i)
-  named-read (PatternRead.Refused w place) new h = (λ m. tt, λ i. read-number {s = bytes} {old = old} {new = new} are h .among w refl)
+  named-read (PatternRead.Refused w place) new h = (λ m. tt, λ i. (read-number {s = bytes} {old = old} {new = new} are h).among w refl)
 
   read-means : (r : PatternRead) (new : List ℕ) → Reads bytes old r new → PatternMeans bytes old (patternAnswer r) new
   read-means r new k =
       let h = read-honest bytes old are r new k in
       let named = named-read r new k in
       record {
-        done = h .done;
-        returned = λ f. let (v, l) = h .returned f in (patterned (h .done .1 f) v, l);
-        refused = (λ m. h .refused .0 (named .0 m), λ f. named .1 (h .refused .1 f));
+        done = h.done;
+        returned = λ f. let (v, l) = h.returned f in (patterned (h.done.1 f) v, l);
+        refused = (λ m. h.refused.0 (named.0 m), λ f. named.1 (h.refused.1 f));
         refused-by = λ w place. (
-          λ (m, e, d). h .refused-by w place .0 (named .0 m, e, d),
-          λ p. let (i, e, d) = h .refused-by w place .1 p in (named .1 i, e, d),
+          λ (m, e, d). (h.refused-by w place).0 (named.0 m, e, d),
+          λ p. let (i, e, d) = (h.refused-by w place).1 p in (named.1 i, e, d),
         );
-        reason = λ m. h .reason (named .0 m);
-        quiet = λ m. let (v, l) = h .quiet (named .0 m) in (patterned refl v, l);
+        reason = λ m. h.reason (named.0 m);
+        quiet = λ m. let (v, l) = h.quiet (named.0 m) in (patterned refl v, l);
       }
     where
       -- by its number and its values
       patterned : {w : ℕ} {v : Reader.Values} → Reader.numberOf r ≡ w → Reader.valuesOf r ≡ v
-          → patternAnswer r ≡ record { answer = w; states = v .states; letters = v .letters; finals = v .finals; x = v .x; y = v .y; place = v .place }
-      patterned e d i = record { answer = e i; states = d i .states; letters = d i .letters; finals = d i .finals; x = d i .x; y = d i .y; place = d i .place }
+          → patternAnswer r ≡ record { answer = w; states = v.states; letters = v.letters; finals = v.finals; x = v.x; y = v.y; place = v.place }
+      patterned e d i = record { answer = e i; states = (d i).states; letters = (d i).letters; finals = (d i).finals; x = (d i).x; y = (d i).y; place = (d i).place }
 
   pub pb-read-means : {r : PbPattern} {new : List ℕ} → ReadPattern bytes old r new → PatternMeans bytes old r new
-  pb-read-means {new = new} k = rw (k .answers) (read-means (k .read) new (k .leaves))
+  pb-read-means {new = new} k = rw k.answers (read-means k.read new k.leaves)
 
   -- a buffer for the most rows is always enough
   pub pb-read-enough : {r : PbPattern} {new : List ℕ} → ReadPattern bytes old r new → maxRows ≤ length old
-      → (P : Pattern) (x y : ℕ) → Valid P → Good (P .states) x → Good (P .states) y → bytes ≡ fileBytes P x y → r .answer ≡ DONE
+      → (P : Pattern) (x y : ℕ) → Valid P → Good P.states x → Good P.states y → bytes ≡ fileBytes P x y → r.answer ≡ DONE
   pb-read-enough k room P x y v gx gy e =
-      let most : P .states * P .letters ≤ 64 * 32 = mul-le-mul (v .sized .states-fit) (v .sized .letters-fit) in
-      pb-read-means k .done .1 (record { pattern = P; x = x; y = y; valid = v; good-x = gx; good-y = gy; enough = omega (arith, most, room); file = e })
+      let most : P.states * P.letters ≤ 64 * 32 = mul-le-mul v.sized.states-fit v.sized.letters-fit in
+      (pb-read-means k).done.1 (record { pattern = P; x = x; y = y; valid = v; good-x = gx; good-y = gy; enough = omega (arith, most, room); file = e })
 
 -- ---- pb_write_pattern
 
 module _ (P : Pattern) (x y : ℕ) (old : List ℕ) where
   named-write : (r : Written) (new : List ℕ) → Writes P x y old r new → OneOf writeRefusals (Writer.numberOf r) ↔ Writer.IsRefused r
   named-write (Written.Done count) new h = (λ m. omega (arith, high writeRefusals refl m), λ i. absurd i)
-  named-write (Written.Refused w) new h = (λ m. tt, λ i. write-number {P = P} {x = x} {y = y} {old = old} {new = new} h .among w refl)
+  named-write (Written.Refused w) new h = (λ m. tt, λ i. (write-number {P = P} {x = x} {y = y} {old = old} {new = new} h).among w refl)
 
   write-means : (r : Written) (new : List ℕ) → Writes P x y old r new → WrittenMeans P x y old (writtenAnswer r) new
   write-means r new k =
       let h = write-honest P x y old r new k in
       let named = named-write r new k in
       record {
-        done = h .done;
-        returned = λ e. let (c, l) = h .returned e in (counted e c, l);
-        refused = (λ m. h .refused .0 (named .0 m), λ f. named .1 (h .refused .1 f));
-        refused-by = λ w. (λ p. h .refused-by w .0 (named .0 (p .0), p .1), λ p. let (i, e) = h .refused-by w .1 p in (named .1 i, e));
-        quiet = λ m. let (c, l) = h .quiet (named .0 m) in (counted refl c, l);
+        done = h.done;
+        returned = λ e. let (c, l) = h.returned e in (counted e c, l);
+        refused = (λ m. h.refused.0 (named.0 m), λ f. named.1 (h.refused.1 f));
+        refused-by = λ w. (λ p. (h.refused-by w).0 (named.0 p.0, p.1), λ p. let (i, e) = (h.refused-by w).1 p in (named.1 i, e));
+        quiet = λ m. let (c, l) = h.quiet (named.0 m) in (counted refl c, l);
       }
     where
       counted : {w count : ℕ} → Writer.numberOf r ≡ w → Writer.countOf r ≡ count → writtenAnswer r ≡ record { answer = w; count = count }
       counted e d i = record { answer = e i; count = d i }
 
   pub pb-write-means : {r : PbWritten} {new : List ℕ} → WrittenPattern P x y old r new → WrittenMeans P x y old r new
-  pb-write-means {new = new} k = rw (k .answers) (write-means (k .written) new (k .leaves))
+  pb-write-means {new = new} k = rw k.answers (write-means k.written new k.leaves)
 
   -- a buffer for the longest file is always enough
   pub pb-write-enough : {r : PbWritten} {new : List ℕ} → WrittenPattern P x y old r new → longestFile ≤ length old
-      → Valid P → Good (P .states) x → Good (P .states) y → r .answer ≡ DONE
-  pb-write-enough k room v gx gy = pb-write-means k .done .1 (record { valid = v; good-x = gx; good-y = gy; enough = omega (arith, file-short P x y v gx gy, room) })
+      → Valid P → Good P.states x → Good P.states y → r.answer ≡ DONE
+  pb-write-enough k room v gx gy = (pb-write-means k).done.1 (record { valid = v; good-x = gx; good-y = gy; enough = omega (arith, file-short P x y v gx gy, room) })
 
 -- ---- files go round
 
 -- what pb_write_pattern wrote, pb_read_pattern reads back: the same values, and the same rows
-pub pb-read-after-write : {P : Pattern} {x y : ℕ} {out old : List ℕ} {w : PbWritten} {out′ : List ℕ} {r : PbPattern} {new : List ℕ} → WrittenPattern P x y out w out′ → w .answer ≡ DONE
-    → P .states * P .letters ≤ length old → ReadPattern (take (w .count) out′) old r new → (r ≡ donePattern P x y) × (new ≡ lay (P .rows) old)
-pb-read-after-write {P} {x} {y} {out} {old} {w} {out′} {r} {new} k e enough k′ = from (k .written) (k .leaves) (k .answers) e k′
+pub pb-read-after-write : {P : Pattern} {x y : ℕ} {out old : List ℕ} {w : PbWritten} {out' : List ℕ} {r : PbPattern} {new : List ℕ} → WrittenPattern P x y out w out' → w.answer ≡ DONE
+    → P.states * P.letters ≤ length old → ReadPattern (take w.count out') old r new → (r ≡ donePattern P x y) × (new ≡ lay P.rows old)
+pb-read-after-write {P} {x} {y} {out} {old} {w} {out'} {r} {new} k e enough k' = from k.written k.leaves k.answers e k'
   where
-    from : {w : PbWritten} (a : Written) → Writes P x y out a out′ → w ≡ writtenAnswer a → w .answer ≡ DONE → ReadPattern (take (w .count) out′) old r new
-        → (r ≡ donePattern P x y) × (new ≡ lay (P .rows) old)
+    from : {w : PbWritten} (a : Written) → Writes P x y out a out' → w ≡ writtenAnswer a → w.answer ≡ DONE → ReadPattern (take w.count out') old r new
+        → (r ≡ donePattern P x y) × (new ≡ lay P.rows old)
     from (Written.Done count) h d e k =
-        let reads : Reads (take count out′) old (k .read) new = rw d at (k .leaves) in
-        let (f, l) = read-after-write P x y out count out′ h old (k .read) new enough reads in
-        (k .answers ∙ ap patternAnswer f, l)
-    from (Written.Refused u) h d e k = absurd (omega (arith, high writeRefusals refl (named-write P x y out (Written.Refused u) out′ h .1 tt), ap (λ (z : PbWritten). z .answer) d, e))
+        let reads : Reads (take count out') old k.read new = rw d at k.leaves in
+        let (f, l) = read-after-write P x y out count out' h old k.read new enough reads in
+        (k.answers ∙ ap patternAnswer f, l)
+    from (Written.Refused u) h d e k = absurd (omega (arith, high writeRefusals refl ((named-write P x y out (Written.Refused u) out' h).1 tt), ap (λ (z : PbWritten). z.answer) d, e))
 
 -- what pb_read_pattern read, pb_write_pattern writes back, byte for byte
-pub pb-write-after-read : {bytes old out : List ℕ} {r : PbPattern} {new : List ℕ} {w : PbWritten} {out′ : List ℕ} → AreBytes bytes → ReadPattern bytes old r new → r .answer ≡ DONE
-    → length bytes ≤ length out → WrittenPattern (patternOf (r .states) (r .letters) (r .finals) (take (r .states * r .letters) new)) (r .x) (r .y) out w out′
-    → (w ≡ doneWritten (length bytes)) × (out′ ≡ lay bytes out)
-pb-write-after-read {bytes} {old} {out} {r} {new} {w} {out′} are k e enough k′ = from (k .read) (k .leaves) (k .answers) e k′
+pub pb-write-after-read : {bytes old out : List ℕ} {r : PbPattern} {new : List ℕ} {w : PbWritten} {out' : List ℕ} → AreBytes bytes → ReadPattern bytes old r new → r.answer ≡ DONE
+    → length bytes ≤ length out → WrittenPattern (patternOf r.states r.letters r.finals (take (r.states * r.letters) new)) r.x r.y out w out'
+    → (w ≡ doneWritten (length bytes)) × (out' ≡ lay bytes out)
+pb-write-after-read {bytes} {old} {out} {r} {new} {w} {out'} are k e enough k' = from k.read k.leaves k.answers e k'
   where
-    from : {r : PbPattern} (a : PatternRead) → Reads bytes old a new → r ≡ patternAnswer a → r .answer ≡ DONE
-        → WrittenPattern (patternOf (r .states) (r .letters) (r .finals) (take (r .states * r .letters) new)) (r .x) (r .y) out w out′
-        → (w ≡ doneWritten (length bytes)) × (out′ ≡ lay bytes out)
+    from : {r : PbPattern} (a : PatternRead) → Reads bytes old a new → r ≡ patternAnswer a → r.answer ≡ DONE
+        → WrittenPattern (patternOf r.states r.letters r.finals (take (r.states * r.letters) new)) r.x r.y out w out'
+        → (w ≡ doneWritten (length bytes)) × (out' ≡ lay bytes out)
     from (PatternRead.Done n k f x y) h d e q =
-        let writes : Writes (patternOf n k f (take (n * k) new)) x y out (q .written) out′ = rw d at (q .leaves) in
-        let (g, l) = write-after-read bytes old n k f x y new are h out (q .written) out′ enough writes in
-        (q .answers ∙ ap writtenAnswer g, l)
-    from (PatternRead.Refused u place) h d e q = absurd (omega (arith, high readRefusals refl (named-read are old (PatternRead.Refused u place) new h .1 tt), ap (λ (z : PbPattern). z .answer) d, e))
+        let writes : Writes (patternOf n k f (take (n * k) new)) x y out q.written out' = rw d at q.leaves in
+        let (g, l) = write-after-read bytes old n k f x y new are h out q.written out' enough writes in
+        (q.answers ∙ ap writtenAnswer g, l)
+    from (PatternRead.Refused u place) h d e q = absurd (omega (arith, high readRefusals refl ((named-read are old (PatternRead.Refused u place) new h).1 tt), ap (λ (z : PbPattern). z.answer) d, e))

@@ -1,10 +1,11 @@
 // Evidence: pairs checked, in two lists of numbers or in a list of records.
-ghost use Rattle·pressbadger·specs.specs.Checks.{ChecksLists, ChecksRecords};
+ghost use Rattle.pressbadger.specs.Checks.{ChecksLists, ChecksRecords};
+
 use records::PbRecord;
 use records::answers::PbChecked;
 
 // Checks the pairs of `lefts` and `rights` as evidence that `x` and `y` have one language.
-#[no_mangle]
+#[unsafe(no_mangle)]
 pub extern "C" fn pb_check(
     states: usize,
     letters: usize,
@@ -15,14 +16,14 @@ pub extern "C" fn pb_check(
     lefts: &[u64],
     rights: &[u64],
 ) -> PbChecked
-    ensures { λ r. ⌜ ChecksLists states letters finals rows x y lefts rights r ⌝ }
+    ensures { ChecksLists states letters finals rows.now x y lefts.now rights.now result }
 {
     let answer = evidence::check(states, letters, finals, rows, x, y, lefts, rights);
     records::answers::check_answer(answer)
 }
 
 // Checks the pairs of a list of records, as SAME leaves it, as evidence that the sets `x` and `y` have one language.
-#[no_mangle]
+#[unsafe(no_mangle)]
 pub extern "C" fn pb_check_records(
     states: usize,
     letters: usize,
@@ -32,9 +33,7 @@ pub extern "C" fn pb_check_records(
     y: u64,
     records: &[PbRecord],
 ) -> PbChecked
-    ensures { λ r. ⌜ ChecksRecords states letters finals rows x y records r ⌝ }
+    ensures { ChecksRecords states letters finals rows.now x y records.now result }
 {
-    let n = records::checks::shown(records.len());
-    let sides = records::checks::gather(records, n);
-    records::checks::check_sides(states, letters, finals, rows, x, y, n, sides)
+    records::checks::check(states, letters, finals, rows, x, y, records)
 }

@@ -1,13 +1,13 @@
 // The comparison: over a lent list of records, and over lists of numbers for a host that has no table of its own.
-ghost use mathlib.Core.Path.{_≡_};
-ghost use Rattle·sets.specs.Rooms.{defaultRoom};
-ghost use Rattle·pressbadger·specs.specs.Compares.{ComparesRecords, ComparesLists};
+ghost use Rattle.sets.specs.Rooms.{defaultRoom};
+ghost use Rattle.pressbadger.specs.Compares.{ComparesRecords, ComparesLists};
+
 use records::PbRecord;
 use records::answers::PbCompared;
 use sets::States;
 
 // Compares the sets `x` and `y` of states of a pattern in a given room, and writes the records that are kept.
-#[no_mangle]
+#[unsafe(no_mangle)]
 pub extern "C" fn pb_compare(
     states: usize,
     letters: usize,
@@ -19,32 +19,13 @@ pub extern "C" fn pb_compare(
     records: &mut [PbRecord],
     sequence: &mut [u8],
 ) -> PbCompared
-    ensures { λ r. ⌜ ComparesRecords states letters finals rows x y room records sequence r ⌝ }
+    ensures { ComparesRecords states letters finals rows.now x y room records sequence result }
 {
-    let found = records::compares::find(
-        states,
-        letters,
-        finals,
-        rows,
-        x,
-        y,
-        room,
-        records.len(),
-        sequence,
-    );
-    let kept = records::compares::kept_in(found);
-    records::compares::fill(found, kept, records);
-    records::compares::compared_in(found)
-}
-
-fn default_room() -> usize
-    ensures { λ r. ⌜ r ≡ defaultRoom ⌝ }
-{
-    States::DEFAULT_ROOM
+    records::compares::compare(states, letters, finals, rows, x, y, room, records, sequence)
 }
 
 // The short form: the default room.
-#[no_mangle]
+#[unsafe(no_mangle)]
 pub extern "C" fn pb_compare_default(
     states: usize,
     letters: usize,
@@ -55,14 +36,23 @@ pub extern "C" fn pb_compare_default(
     records: &mut [PbRecord],
     sequence: &mut [u8],
 ) -> PbCompared
-    ensures { λ r. ⌜ ComparesRecords states letters finals rows x y defaultRoom records sequence r ⌝ }
+    ensures { ComparesRecords states letters finals rows.now x y defaultRoom records sequence result }
 {
-    let room = default_room();
-    pb_compare(states, letters, finals, rows, x, y, room, records, sequence)
+    pb_compare(
+        states,
+        letters,
+        finals,
+        rows,
+        x,
+        y,
+        States::DEFAULT_ROOM,
+        records,
+        sequence,
+    )
 }
 
 // Compares the sets `x` and `y`, with a list of numbers for each column of the records.
-#[no_mangle]
+#[unsafe(no_mangle)]
 pub extern "C" fn pb_compare_lists(
     states: usize,
     letters: usize,
@@ -77,21 +67,10 @@ pub extern "C" fn pb_compare_lists(
     taken: &mut [u8],
     sequence: &mut [u8],
 ) -> PbCompared
-    ensures { λ r. ⌜ ComparesLists states letters finals rows x y room lefts rights parents taken sequence r ⌝ }
+    ensures { ComparesLists states letters finals rows.now x y room lefts rights parents taken sequence result }
 {
     let answer = comparison::compare(
-        states,
-        letters,
-        finals,
-        rows,
-        x,
-        y,
-        room,
-        lefts,
-        rights,
-        parents,
-        taken,
-        sequence,
+        states, letters, finals, rows, x, y, room, lefts, rights, parents, taken, sequence,
     );
     records::answers::compare_answer(answer)
 }

@@ -1,11 +1,13 @@
 // Pattern files for the host: read and written.
-ghost use mathlib.Core.Path.{_≡_};
-ghost use Rattle·pressbadger·specs.specs.Files.{patternAnswer, ReadsPattern, writtenAnswer, WritesPattern};
-use patternfile::PatternRead;
-use patternfile::Written;
+ghost use Rattle.std.specs.Prelude.{◌≡◌};
+ghost use Rattle.pattern.specs.Pattern.{patternOf};
+ghost use Rattle.pressbadger.specs.Files.{patternAnswer, ReadPattern, writtenAnswer, WrittenPattern};
+
+use patternfile::{PatternRead, Written};
 
 // The answer to `pb_read_pattern`: 7 and the file's numbers, or a refusal and its place.
 #[repr(C)]
+#[derive(Clone, Copy)]
 pub struct PbPattern {
     pub answer: u8,
     pub states: usize,
@@ -18,22 +20,23 @@ pub struct PbPattern {
 
 // The answer to `pb_write_pattern`: 7 and how many bytes were written, or a refusal and 0.
 #[repr(C)]
+#[derive(Clone, Copy)]
 pub struct PbWritten {
     pub answer: u8,
     pub count: usize,
 }
 
 // Reads a pattern file; its rows go into `rows`.
-#[no_mangle]
+#[unsafe(no_mangle)]
 pub extern "C" fn pb_read_pattern(bytes: &[u8], rows: &mut [u64]) -> PbPattern
-    ensures { λ r. ⌜ ReadsPattern bytes rows r ⌝ }
+    ensures { ReadPattern bytes.now rows.old result rows.new }
 {
     let read = patternfile::read(bytes, rows);
     pattern_answer(read)
 }
 
 fn pattern_answer(read: PatternRead) -> PbPattern
-    ensures { λ r. ⌜ r ≡ patternAnswer read ⌝ }
+    ensures { result ≡ patternAnswer read }
 {
     match read {
         PatternRead::Done {
@@ -64,7 +67,7 @@ fn pattern_answer(read: PatternRead) -> PbPattern
 }
 
 // Writes the pattern file of a pattern and two sets into `bytes`.
-#[no_mangle]
+#[unsafe(no_mangle)]
 pub extern "C" fn pb_write_pattern(
     states: usize,
     letters: usize,
@@ -74,14 +77,14 @@ pub extern "C" fn pb_write_pattern(
     y: u64,
     bytes: &mut [u8],
 ) -> PbWritten
-    ensures { λ r. ⌜ WritesPattern states letters finals rows x y bytes r ⌝ }
+    ensures { WrittenPattern (patternOf states letters finals rows.now) x y bytes.old result bytes.new }
 {
     let written = patternfile::write(states, letters, finals, rows, x, y, bytes);
     written_answer(written)
 }
 
 fn written_answer(written: Written) -> PbWritten
-    ensures { λ r. ⌜ r ≡ writtenAnswer written ⌝ }
+    ensures { result ≡ writtenAnswer written }
 {
     match written {
         Written::Done(count) => PbWritten {

@@ -1,6 +1,9 @@
 // The host's face: the calls that C and Rust programs make. `include/pressbadger.h` is their manual.
-ghost use mathlib.Core.Path.{_≡_};
-ghost use Rattle·pressbadger·specs.specs.Judges.{Judges};
+#![tactic(auto)]
+
+ghost use Rattle.std.specs.Prelude.{◌≡◌};
+ghost use Rattle.pressbadger.specs.Judges.{Judges};
+
 use pattern::Judged;
 
 pub mod checks; // checks.rt: evidence checked, in two lists or in a list of records
@@ -9,12 +12,13 @@ pub mod files; // files.rt: pattern files, read and written
 
 // The answer to `pb_judge`.
 #[repr(C)]
+#[derive(Clone, Copy)]
 pub struct PbJudged {
     pub answer: u8,
 }
 
 // Judges one sequence from one set of states.
-#[no_mangle]
+#[unsafe(no_mangle)]
 pub extern "C" fn pb_judge(
     states: usize,
     letters: usize,
@@ -23,7 +27,7 @@ pub extern "C" fn pb_judge(
     set: u64,
     sequence: &[u8],
 ) -> PbJudged
-    ensures { λ r. ⌜ Judges states letters finals rows set sequence r ⌝ }
+    ensures { Judges states letters finals rows.now set sequence.now result }
 {
     let judged = pattern::judge(states, letters, finals, rows, set, sequence);
     match judged {
@@ -34,9 +38,9 @@ pub extern "C" fn pb_judge(
 }
 
 // The version of this interface.
-#[no_mangle]
+#[unsafe(no_mangle)]
 pub extern "C" fn pb_version() -> u32
-    ensures { λ r. ⌜ r ≡ 1 ⌝ }
+    ensures { result ≡ 1 }
 {
     1
 }

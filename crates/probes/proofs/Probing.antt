@@ -1,13 +1,13 @@
 -- The two ways that a probe ends. Assumes nothing.
-use mathlib.Core.Path.{_≡_, refl}
+use mathlib.Core.Path.{◌≡◌, refl}
 use mathlib.Core.Bool.{Bool, true, false}
 use Prim.Native.Nat.{ℕ}
 use native.Mathlib.Omega.{arith}
-use Rattle·verdict.specs.declared.Verdict.{Verdict}
-use Rattle·verdict.specs.declared.Verdict.the-variants.{Fine, Against}
-use Rattle·verdict.specs.Tests.{Decides}
-use Rattle·verdict.proofs.Ordered.{apart, one-number}
-use Rattle·probes·specs.specs.Probes.{Probes, Says}
+use Rattle.verdict.specs.declared.Verdict.{Verdict}
+use Rattle.verdict.specs.declared.Verdict.TheVariants.{Fine, Against}
+use Rattle.verdict.specs.Tests.{Decides}
+use Rattle.verdict.proofs.Ordered.{apart, one-number}
+use Rattle.probes.specs.Probes.{Probes, Says}
 
 module _ {test : Verdict} {Right : ℕ → Type 0} {v : ℕ} where
   pub probe-done : test ≡ Fine → Right v → Probes test Right (record { answer = 7; value = v })
@@ -18,7 +18,7 @@ probe-refused Right e = record { done = λ p. apart p e; refused = λ u p. (one-
 
 -- a flag as a number
 pub says-yes : {A : Type 0} {flag : Bool} → Decides A flag → flag ≡ true → Says A 1
-says-yes d e = record { bound = omega arith; sound = λ p. d .sound e; complete = λ p. omega arith }
+says-yes d e = record { bound = omega arith; sound = λ p. d.sound e; complete = λ p. omega arith }
 
 pub says-no : {A : Type 0} {flag : Bool} → Decides A flag → flag ≡ false → Says A 0
-says-no d e = record { bound = omega arith; sound = λ p. absurd (omega arith); complete = λ p. d .complete e }
+says-no d e = record { bound = omega arith; sound = λ p. absurd (omega arith); complete = λ p. d.complete e }

@@ -1,14 +1,11 @@
 -- What the probes of numbers answer.
-use mathlib.Core.Path.{_≡_}
-use mathlib.Core.List.{List}
-use Prim.Native.Nat.{ℕ, _+_, _≤_}
-use lib.ListN.{length}
-use Rattle·lent.specs.Lent.{Put}
-use Rattle·numbers.specs.Numbers.{encode}
-use Rattle·numbers.specs.declared.Number.{Number}
-use Rattle·numbers.specs.declared.Number.the-variants.{Value, Fault}
-use Rattle·probes·specs.specs.declared.Probed.{Probed}
-use Rattle·probes·specs.specs.declared.ProbedNumber.{ProbedNumber}
+use Rattle.std.specs.Prelude.{◌≡◌, List, ℕ, ◌+◌, ◌≤◌, length}
+use Rattle.lent.specs.Lent.{Put}
+use Rattle.numbers.specs.Numbers.{encode}
+use Rattle.numbers.specs.declared.Number.{Number}
+use Rattle.numbers.specs.declared.Number.TheVariants.{Value, Fault}
+use Rattle.probes.specs.declared.Probed.{Probed}
+use Rattle.probes.specs.declared.ProbedNumber.{ProbedNumber}
 
 abbrev pub probedNumber : Number → ProbedNumber
 probedNumber (Value v next) = record { answer = 7; value = v; place = next }
@@ -16,5 +13,5 @@ probedNumber (Fault w place) = record { answer = w; value = 0; place = place }
 
 -- 7 and the place after it where the number's bytes fit; else 14, and nothing is written
 pub record WritesNumber (old : List ℕ) (at v : ℕ) (r : Probed) (new : List ℕ) : Type 0 where
-  pub done : at + length (encode v) ≤ length old → (r .answer ≡ 7) × Put old at (encode v) (r .value) new
-  pub refused : (at + length (encode v) ≤ length old → ⊥) → (r .answer ≡ 14) × (r .value ≡ 0) × (new ≡ old)
+  pub done : at + length (encode v) ≤ length old → (r.answer ≡ 7) × Put old at (encode v) r.value new
+  pub refused : (at + length (encode v) ≤ length old → ⊥) → (r.answer ≡ 14) × (r.value ≡ 0) × (new ≡ old)

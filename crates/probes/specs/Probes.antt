@@ -1,25 +1,19 @@
 -- What the probes answer: 7 and the value, or a refusal and 0. They are for tests alone, so that inner functions can be held to a reference.
-use mathlib.Core.Path.{_≡_}
-use mathlib.Core.List.{List, [], _∷_}
-use Prim.Native.Nat.{ℕ, _≤_}
-use lib.ListN.{length}
-use lib.Dec.{eqb, ltb}
-use Rattle·verdict.specs.declared.Verdict.{Verdict}
-use Rattle·verdict.specs.declared.Verdict.the-variants.{Fine, Against}
-use Rattle·verdict.specs.Tests.{need, inOrder}
-use Rattle·lent.specs.Lent.{Slice}
-use Rattle·pattern.specs.Pattern.{Pattern, patternIn}
-use Rattle·pattern.specs.Tests.{shapeTest}
-use Rattle·pattern.specs.Language.{next}
-use Rattle·pattern.specs.Judge.{letterTest}
-use Rattle·lent.specs.Lent.{Slice, before}
-use Rattle·congruence.specs.Congruence.{Congruent, Listed}
-use Rattle·congruence.specs.Closing.{Closes}
-use Rattle·probes·specs.specs.declared.Probed.{Probed}
+use Rattle.std.specs.Prelude.{◌≡◌, List, [], ◌∷◌, ℕ, ◌≤◌, length, eqb, ltb}
+use Rattle.verdict.specs.declared.Verdict.{Verdict}
+use Rattle.verdict.specs.declared.Verdict.TheVariants.{Fine, Against}
+use Rattle.verdict.specs.Tests.{need, inOrder}
+use Rattle.pattern.specs.Pattern.{Pattern, patternOf}
+use Rattle.pattern.specs.Tests.{shapeTest}
+use Rattle.pattern.specs.Language.{next}
+use Rattle.pattern.specs.Judge.{letterTest}
+use Rattle.congruence.specs.Congruence.{Congruent, Listed}
+use Rattle.congruence.specs.Closing.{Closes}
+use Rattle.probes.specs.declared.Probed.{Probed}
 
 pub record Probes (test : Verdict) (Right : ℕ → Type 0) (r : Probed) : Type 0 where
-  pub done : test ≡ Fine → (r .answer ≡ 7) × Right (r .value)
-  pub refused : (w : ℕ) → test ≡ Against w → (r .answer ≡ w) × (r .value ≡ 0)
+  pub done : test ≡ Fine → (r.answer ≡ 7) × Right r.value
+  pub refused : (w : ℕ) → test ≡ Against w → (r.answer ≡ w) × (r.value ≡ 0)
 
 -- a state that a mask has a bit for
 unfoldable pub stateTest : ℕ → Verdict
@@ -27,12 +21,12 @@ stateTest s = need (ltb s 64) 12
 
 -- 10, 11, 15
 unfoldable pub nextTest : Pattern → ℕ → Verdict
-nextTest P a = inOrder (shapeTest P ∷ letterTest (P .letters) a ∷ [])
+nextTest P a = inOrder (shapeTest P ∷ letterTest P.letters a ∷ [])
 
 -- the set that a letter takes a set to, whatever the finals are
-abbrev pub ProbesNext : ℕ → ℕ → Slice → ℕ → ℕ → Probed → Type 0
+abbrev pub ProbesNext : ℕ → ℕ → List ℕ → ℕ → ℕ → Probed → Type 0
 ProbesNext n k rows set letter r =
-    (finals : ℕ) → Probes (nextTest (patternIn n k finals rows) letter) (λ v. v ≡ next (patternIn n k finals rows) set letter) r
+    (finals : ℕ) → Probes (nextTest (patternOf n k finals rows) letter) (λ v. v ≡ next (patternOf n k finals rows) set letter) r
 
 -- two sides of one length
 unfoldable pub sidesTest : List ℕ → List ℕ → Verdict
@@ -47,9 +41,9 @@ pub record Says (A : Type 0) (v : ℕ) : Type 0 where
 -- ---- what is asked of a lent list of pairs
 
 -- the set, closed by the pairs
-abbrev pub ProbesClosing : Slice → Slice → ℕ → Probed → Type 0
-ProbesClosing lefts rights set r = Probes (sidesTest (before lefts) (before rights)) (λ v. Closes (Listed (before lefts) (before rights)) set v) r
+abbrev pub ProbesClosing : List ℕ → List ℕ → ℕ → Probed → Type 0
+ProbesClosing lefts rights set r = Probes (sidesTest lefts rights) (λ v. Closes (Listed lefts rights) set v) r
 
 -- whether two sets are congruent by the pairs
-abbrev pub ProbesCongruence : Slice → Slice → ℕ → ℕ → Probed → Type 0
-ProbesCongruence lefts rights a b r = Probes (sidesTest (before lefts) (before rights)) (λ v. Says (Congruent (Listed (before lefts) (before rights)) a b) v) r
+abbrev pub ProbesCongruence : List ℕ → List ℕ → ℕ → ℕ → Probed → Type 0
+ProbesCongruence lefts rights a b r = Probes (sidesTest lefts rights) (λ v. Says (Congruent (Listed lefts rights) a b) v) r

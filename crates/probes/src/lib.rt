@@ -1,20 +1,23 @@
 // Exports for tests alone: what the host does not call.
-ghost use mathlib.Core.Path.{_≡_};
-ghost use Prim.Native.Nat.{_^_};
-ghost use lib.Bits.{bitOr};
-ghost use Rattle·verdict.specs.Tests.{Decides};
-ghost use Rattle·sets.specs.Sets.{Within, meets};
-ghost use Rattle·pattern.specs.Pattern.{patternIn};
-ghost use Rattle·pattern.specs.Tests.{patternTest};
-ghost use Rattle·numbers.specs.Numbers.{numberAt};
-ghost use Rattle·probes·specs.specs.Probes.{Probes, ProbesNext, ProbesClosing, ProbesCongruence, stateTest};
-ghost use Rattle·probes·specs.specs.Numbers.{probedNumber, WritesNumber};
+#![tactic(auto)]
+
+ghost use Rattle.std.specs.Prelude.{◌≡◌, ◌^◌};
+ghost use Rattle.std.specs.Int.Bits.{bit_or};
+ghost use Rattle.verdict.specs.Tests.{Decides};
+ghost use Rattle.sets.specs.Sets.{Within, meets};
+ghost use Rattle.pattern.specs.Pattern.{patternOf};
+ghost use Rattle.pattern.specs.Tests.{patternTest};
+ghost use Rattle.numbers.specs.Numbers.{numberAt};
+ghost use Rattle.probes.specs.Probes.{Probes, ProbesNext, ProbesClosing, ProbesCongruence, stateTest};
+ghost use Rattle.probes.specs.Numbers.{probedNumber, WritesNumber};
+
 use numbers::Number;
 use sets::States;
 use verdict::Verdict;
 
 // 7 and a value, or a refusal and 0.
 #[repr(C)]
+#[derive(Drop)]
 pub struct Probed {
     pub answer: u8,
     pub value: u64,
@@ -22,37 +25,38 @@ pub struct Probed {
 
 // 7 with a number and the place after it, or a fault with its place.
 #[repr(C)]
+#[derive(Drop)]
 pub struct ProbedNumber {
     pub answer: u8,
     pub value: u64,
     pub place: usize,
 }
 
-#[no_mangle]
+#[unsafe(no_mangle)]
 pub extern "C" fn probe_union(a: u64, b: u64) -> u64
-    ensures { λ r. ⌜ r ≡ bitOr a b ⌝ }
+    ensures { result ≡ bit_or a b }
 {
     sets::union(a, b)
 }
 
-#[no_mangle]
+#[unsafe(no_mangle)]
 pub extern "C" fn probe_within(a: u64, c: u64) -> bool
-    ensures { λ r. ⌜ Decides (Within a c) r ⌝ }
+    ensures { Decides (Within a c) result }
 {
     sets::within(a, c)
 }
 
-#[no_mangle]
+#[unsafe(no_mangle)]
 pub extern "C" fn probe_meets(a: u64, b: u64) -> bool
-    ensures { λ r. ⌜ r ≡ meets a b ⌝ }
+    ensures { result ≡ meets a b }
 {
     sets::meets(a, b)
 }
 
 // The set of one state.
-#[no_mangle]
+#[unsafe(no_mangle)]
 pub extern "C" fn probe_single(s: usize) -> Probed
-    ensures { λ r. ⌜ Probes (stateTest s) (λ v. v ≡ 2 ^ s) r ⌝ }
+    ensures { Probes (stateTest s) (λ v. v ≡ 2 ^ s) result }
 {
     if s < 64 {
         let single = States::single(s);
@@ -69,9 +73,9 @@ pub extern "C" fn probe_single(s: usize) -> Probed
 }
 
 // What is against a pattern.
-#[no_mangle]
+#[unsafe(no_mangle)]
 pub extern "C" fn probe_pattern(states: usize, letters: usize, finals: u64, rows: &[u64]) -> Probed
-    ensures { λ r. ⌜ Probes (patternTest (patternIn states letters finals rows)) (λ v. v ≡ 0) r ⌝ }
+    ensures { Probes (patternTest (patternOf states letters finals rows.now)) (λ v. v ≡ 0) result }
 {
     let test = pattern::pattern_test(states, letters, finals, rows);
     match test {
@@ -87,7 +91,7 @@ pub extern "C" fn probe_pattern(states: usize, letters: usize, finals: u64, rows
 }
 
 // The set that a letter takes a set to.
-#[no_mangle]
+#[unsafe(no_mangle)]
 pub extern "C" fn probe_next(
     states: usize,
     letters: usize,
@@ -95,7 +99,7 @@ pub extern "C" fn probe_next(
     set: u64,
     letter: u8,
 ) -> Probed
-    ensures { λ r. ⌜ ProbesNext states letters rows set letter r ⌝ }
+    ensures { ProbesNext states letters rows.now set letter result }
 {
     let shape = pattern::shape_test(states, letters, rows);
     if let Verdict::Against(number) = shape {
@@ -118,9 +122,9 @@ pub extern "C" fn probe_next(
 }
 
 // A set closed by a list of pairs.
-#[no_mangle]
+#[unsafe(no_mangle)]
 pub extern "C" fn probe_close(lefts: &[u64], rights: &[u64], set: u64) -> Probed
-    ensures { λ r. ⌜ ProbesClosing lefts rights set r ⌝ }
+    ensures { ProbesClosing lefts.now rights.now set result }
 {
     if lefts.len() == rights.len() {
         return Probed {
@@ -135,9 +139,9 @@ pub extern "C" fn probe_close(lefts: &[u64], rights: &[u64], set: u64) -> Probed
 }
 
 // Whether two sets are congruent by a list of pairs: 1 or 0.
-#[no_mangle]
+#[unsafe(no_mangle)]
 pub extern "C" fn probe_congruent(lefts: &[u64], rights: &[u64], a: u64, b: u64) -> Probed
-    ensures { λ r. ⌜ ProbesCongruence lefts rights a b r ⌝ }
+    ensures { ProbesCongruence lefts.now rights.now a b result }
 {
     if lefts.len() == rights.len() {
         if congruence::congruent(lefts, rights, a, b) {
@@ -158,9 +162,9 @@ pub extern "C" fn probe_congruent(lefts: &[u64], rights: &[u64], a: u64, b: u64)
 }
 
 // The number at a place of some bytes.
-#[no_mangle]
+#[unsafe(no_mangle)]
 pub extern "C" fn probe_read_number(bytes: &[u8], at: usize) -> ProbedNumber
-    ensures { λ r. ⌜ r ≡ probedNumber (numberAt (now (bytes .entry)) at) ⌝ }
+    ensures { result ≡ probedNumber (numberAt bytes.now at) }
 {
     let number = numbers::read(bytes, at);
     match number {
@@ -178,9 +182,9 @@ pub extern "C" fn probe_read_number(bytes: &[u8], at: usize) -> ProbedNumber
 }
 
 // A number put at a place of a lent buffer: 7 and the place after it, or 14 where it does not fit.
-#[no_mangle]
+#[unsafe(no_mangle)]
 pub extern "C" fn probe_write_number(out: &mut [u8], at: usize, value: u64) -> Probed
-    ensures { λ r. ⌜ WritesNumber (now (out .entry)) at value r (now (out .exit)) ⌝ }
+    ensures { WritesNumber out.old at value result out.new }
 {
     let size = numbers::size(value);
     if out.len() < at {

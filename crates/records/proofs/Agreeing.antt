@@ -1,22 +1,22 @@
 -- The comparison over a list of records gives what the comparison over lists of numbers gives for its columns. Assumes nothing.
-use mathlib.Core.Path.{_≡_, refl, sym, ap, ap₂, _∙_, subst}
-use mathlib.Core.List.{List, [], _∷_, _++_, map, map-append}
+use mathlib.Core.Path.{◌≡◌, refl, sym, ap, ap₂, ◌∙◌, subst}
+use mathlib.Core.List.{List, [], ◌∷◌, ◌++◌, map, map-append}
 use Prim.Native.Nat.{ℕ, zero, suc}
 use native.Mathlib.Omega.{arith}
-use lib.ListN.{length, getD, drop, take, length-map}
-use Rattle·lent.specs.Lent.{lay}
-use Rattle·walk.specs.Walk.{Question, Record, keptOf, wordOf}
-use Rattle·walk.specs.Columns.{Field, value, column, firsts}
-use Rattle·walk.proofs.Columns.{column-by, column-each, record-path, columns-path}
-use Rattle·comparison.specs.Answers.{Lent, answerOf, layOut, Compared}
-use Rattle·comparison.specs.Answers.Compared.{refuses, walks}
-use Rattle·comparison.specs.declared.Answer.{Answer}
-use Rattle·comparison.proofs.Standing.{lent-path}
-use Rattle·comparison.proofs.CompareDetermined.{compare-determined}
-use Rattle·records·specs.specs.declared.PbRecord.{PbRecord}
-use Rattle·records·specs.specs.declared.answers.PbCompared.{PbCompared}
-use Rattle·records·specs.specs.Answers.{compareAnswer, ComparedLists}
-use Rattle·records·specs.specs.Records.{written, valueIn, columnsIn, lentFor, callOn, layRecords, ComparedRecords}
+use lib.ListN.{length, get_or, drop, take, length-map}
+use Rattle.lent.specs.Lent.{lay}
+use Rattle.walk.specs.Walk.{Question, Record, keptOf, wordOf}
+use Rattle.walk.specs.Columns.{Field, value, column, firsts}
+use Rattle.walk.proofs.Columns.{column-by, column-each, record-path, columns-path}
+use Rattle.comparison.specs.Answers.{Lent, answerOf, layOut, Compared}
+use Rattle.comparison.specs.Answers.Compared.{refuses, walks}
+use Rattle.comparison.specs.declared.Answer.{Answer}
+use Rattle.comparison.proofs.Standing.{lent-path}
+use Rattle.comparison.proofs.CompareDetermined.{compare-determined}
+use Rattle.records.specs.declared.PbRecord.{PbRecord}
+use Rattle.records.specs.declared.answers.PbCompared.{PbCompared}
+use Rattle.records.specs.Answers.{compareAnswer, ComparedLists}
+use Rattle.records.specs.Records.{written, valueIn, columnsIn, lentFor, callOn, layRecords, ComparedRecords}
 
 -- ---- the columns of a host's list
 
@@ -36,7 +36,7 @@ known-by [] (q ∷ qs) f = absurd (omega (arith, ap length (f Field.left)))
 known-by (r ∷ rs) [] f = absurd (omega (arith, ap length (f Field.left)))
 known-by (r ∷ rs) (q ∷ qs) f =
     ap₂ (λ (h : PbRecord) (t : List PbRecord). h ∷ t)
-    (ap written (record-path (λ (x : Field). valueIn x r) (λ (x : Field). valueIn x q) (λ x. ap (λ (l : List ℕ). getD l 0 0) (f x))))
+    (ap written (record-path (λ (x : Field). valueIn x r) (λ (x : Field). valueIn x q) (λ x. ap (λ (l : List ℕ). get_or l 0 0) (f x))))
     (known-by rs qs (λ x. ap (drop 1) (f x)))
 
 -- two lists with the same first places in every column have the same first records
@@ -100,5 +100,5 @@ pub pb-compare-agrees : {Q : Question} {room : ℕ} {records : List PbRecord} {s
     → ComparedRecords Q room records sequence r later word → ComparedLists (callOn Q room records sequence) s left → (r ≡ s) × (lentFor later word ≡ left)
 pb-compare-agrees e c =
     let by = pb-compare-by-columns e in
-    let same = compare-determined (by .compared) (c .compared) in
-    (by .answers ∙ ap compareAnswer (same .0) ∙ sym (c .answers), same .1)
+    let same = compare-determined by.compared c.compared in
+    (by.answers ∙ ap compareAnswer same.0 ∙ sym c.answers, same.1)

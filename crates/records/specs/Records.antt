@@ -5,24 +5,22 @@
 --   layRecords          the kept records in the first places, every other record as it was
 --   ComparedRecords     the answer, the records and the sequence: one result for every call (`pb-compare-determined`), the same as over columns
 --                       (`pb-compare-by-columns`, `pb-compare-agrees`)
-use mathlib.Core.Path.{_≡_}
-use mathlib.Core.List.{List, map}
-use Prim.Native.Nat.{ℕ}
-use Rattle·verdict.specs.declared.Verdict.the-variants.{Fine, Against}
-use Rattle·lent.specs.Lent.{lay}
-use Rattle·walk.specs.Walk.{Question, Record, Outcome, keptOf, wordOf, Walk}
-use Rattle·walk.specs.Columns.{Field, value, Columns, columnsBy}
-use Rattle·comparison.specs.Answers.{Lent, Call, compareTest, answerOf}
-use Rattle·comparison.specs.declared.Answer.{Answer}
-use Rattle·records·specs.specs.declared.PbRecord.{PbRecord}
-use Rattle·records·specs.specs.declared.answers.PbCompared.{PbCompared}
-use Rattle·records·specs.specs.Answers.{compareAnswer}
+use Rattle.std.specs.Prelude.{◌≡◌, List, map, ℕ}
+use Rattle.verdict.specs.declared.Verdict.TheVariants.{Fine, Against}
+use Rattle.lent.specs.Lent.{lay}
+use Rattle.walk.specs.Walk.{Question, Record, Outcome, keptOf, wordOf, Walk}
+use Rattle.walk.specs.Columns.{Field, value, Columns, columnsBy}
+use Rattle.comparison.specs.Answers.{Lent, Call, compareTest, answerOf}
+use Rattle.comparison.specs.declared.Answer.{Answer}
+use Rattle.records.specs.declared.PbRecord.{PbRecord}
+use Rattle.records.specs.declared.answers.PbCompared.{PbCompared}
+use Rattle.records.specs.Answers.{compareAnswer}
 
 abbrev pub written : Record → PbRecord
-written r = record { left = r .left; right = r .right; parent = r .parent; letter = r .letter }
+written r = record { left = r.left; right = r.right; parent = r.parent; letter = r.letter }
 
 abbrev pub recordOf : PbRecord → Record
-recordOf r = record { left = r .left; right = r .right; parent = r .parent; letter = r .letter }
+recordOf r = record { left = r.left; right = r.right; parent = r.parent; letter = r.letter }
 
 abbrev pub valueIn : Field → PbRecord → ℕ
 valueIn x r = value x (recordOf r)

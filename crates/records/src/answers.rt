@@ -1,11 +1,13 @@
 // The answers as a host reads them: the scope's number of each (§7), and the numbers returned with it.
-ghost use mathlib.Core.Path.{_≡_};
-ghost use Rattle·records·specs.specs.Answers.{compareAnswer, checkAnswer};
+ghost use Rattle.std.specs.Prelude.{◌≡◌};
+ghost use Rattle.records.specs.Answers.{compareAnswer, checkAnswer};
+
 use comparison::Answer as Compared;
 use evidence::Answer as Checked;
 
 // The answer to a comparison.
 #[repr(C)]
+#[derive(Clone, Copy)]
 pub struct PbCompared {
     pub answer: u8,
     pub kept: usize,
@@ -14,7 +16,7 @@ pub struct PbCompared {
 }
 
 pub fn compare_answer(answer: Compared) -> PbCompared
-    ensures { λ r. ⌜ r ≡ compareAnswer answer ⌝ }
+    ensures { result ≡ compareAnswer answer }
 {
     match answer {
         Compared::Same(kept, examined) => PbCompared {
@@ -46,13 +48,14 @@ pub fn compare_answer(answer: Compared) -> PbCompared
 
 // The answer to a check: PROVED or NOT-PROVED with its place, or a refusal and 0.
 #[repr(C)]
+#[derive(Clone, Copy)]
 pub struct PbChecked {
     pub answer: u8,
     pub place: usize,
 }
 
 pub fn check_answer(answer: Checked) -> PbChecked
-    ensures { λ r. ⌜ r ≡ checkAnswer answer ⌝ }
+    ensures { result ≡ checkAnswer answer }
 {
     match answer {
         Checked::Proved => PbChecked {

@@ -1,8 +1,10 @@
-// The check of a list of records: its sides gathered, and checked.
-ghost use Prim.Native.Nat.{_≤_};
-ghost use lib.ListN.{length};
-ghost use Rattle·lent.specs.Lent.{before};
-ghost use Rattle·records·specs.specs.Inner.{mostShown, Shown, Gathers, ChecksSides};
+// The check of a list of records: its two sides gathered, and checked.
+ghost use Rattle.std.specs.Prelude.{◌≤◌, length};
+ghost use Rattle.evidence.specs.Evidence.{offerOf};
+ghost use Rattle.records.specs.Answers.{CheckedOffer};
+ghost use Rattle.records.specs.Records.{columnsIn};
+ghost use Rattle.records.specs.Inner.{Shown, Gathers};
+
 use crate::PbRecord;
 use crate::answers::PbChecked;
 use sets::States;
@@ -10,15 +12,9 @@ use sets::States;
 // One more than a list may have: enough for the check to refuse it in its own order.
 const MOST_SHOWN: usize = States::MAX_ROOM + 1;
 
-// The two sides of the pairs that a list offers.
-pub struct Sides {
-    pub lefts: [u64; MOST_SHOWN],
-    pub rights: [u64; MOST_SHOWN],
-}
-
 // How many records are looked at.
-pub fn shown(listed: usize) -> usize
-    ensures { λ r. ⌜ Shown listed r ⌝ }
+fn shown(listed: usize) -> usize
+    ensures { Shown listed result }
 {
     if listed > States::MAX_ROOM {
         return MOST_SHOWN;
@@ -26,46 +22,35 @@ pub fn shown(listed: usize) -> usize
     listed
 }
 
-fn zeros() -> [u64; MOST_SHOWN] {
-    [0u64; MOST_SHOWN]
-}
-
 // The sides of the first `n` records.
-pub fn gather(records: &[PbRecord], n: usize) -> Sides
-    requires { ⌜ (n ≤ mostShown) × (n ≤ length (now records)) ⌝ }
-    ensures { λ r. ⌜ Gathers (before records) n r ⌝ }
+fn gather(records: &[PbRecord], n: usize, lefts: &mut [u64], rights: &mut [u64])
+    requires lefts_fit { n ≤ length lefts.old }
+    requires rights_fit { n ≤ length rights.old }
+    requires list_fits { n ≤ length records.now }
+    ensures { Gathers records.now n lefts.new rights.new }
 {
-    let mut left = zeros();
-    let mut right = zeros();
-    let mut i = 0;
-    while i < n {
-        let pair = records[i];
-        left[i] = pair.left;
-        right[i] = pair.right;
-        i += 1;
-    }
-    Sides {
-        lefts: left,
-        rights: right,
+    for i in 0..n {
+        lefts[i] = records[i].left;
+        rights[i] = records[i].right;
     }
 }
 
-// The check of the first `n` pairs.
-pub fn check_sides(
+// Checks the pairs of a list of records as evidence that the sets `x` and `y` have one language.
+pub fn check(
     states: usize,
     letters: usize,
     finals: u64,
     rows: &[u64],
     x: u64,
     y: u64,
-    n: usize,
-    sides: Sides,
+    records: &[PbRecord],
 ) -> PbChecked
-    requires { ⌜ (n ≤ length (sides .lefts)) × (n ≤ length (sides .rights)) ⌝ }
-    ensures { λ r. ⌜ ChecksSides states letters finals rows x y n sides r ⌝ }
+    ensures { CheckedOffer (offerOf states letters finals rows.now x y (columnsIn records.now).lefts (columnsIn records.now).rights) result }
 {
-    let lefts = sides.lefts;
-    let rights = sides.rights;
+    let mut lefts = [0u64; MOST_SHOWN];
+    let mut rights = [0u64; MOST_SHOWN];
+    let n = shown(records.len());
+    gather(records, n, &mut lefts, &mut rights);
     let answer = evidence::check(
         states,
         letters,

@@ -1,26 +1,17 @@
-// The comparison for a list of records: made in columns of its own, which are then written as records.
-ghost use mathlib.Core.Path.{_≡_};
-ghost use Prim.Native.Nat.{_≤_};
-ghost use lib.ListN.{length};
-ghost use Rattle·lent.specs.Lent.{before, after};
-ghost use Rattle·sets.specs.Rooms.{maxRoom};
-ghost use Rattle·records·specs.specs.Inner.{filled, Asked, Finds};
+// The comparison over a list of records: made in columns of its own, which are then written as records.
+ghost use Rattle.std.specs.Prelude.{◌≡◌, ◌≤◌, length};
+ghost use Rattle.walk.specs.Walk.{questionOf};
+ghost use Rattle.walk.specs.Columns.{Fit};
+ghost use Rattle.records.specs.Records.{ComparedRecords};
+ghost use Rattle.records.specs.Inner.{asColumns, filled, Asked};
+
 use crate::PbRecord;
 use crate::answers::PbCompared;
 use sets::States;
 
-// What a comparison found: its answer, and the records column by column.
-pub struct Found {
-    pub compared: PbCompared,
-    pub lefts: [u64; States::MAX_ROOM],
-    pub rights: [u64; States::MAX_ROOM],
-    pub parents: [u16; States::MAX_ROOM],
-    pub taken: [u8; States::MAX_ROOM],
-}
-
 // The room to ask for: where the list is shorter than the room, one that the comparison refuses in its own order.
 fn asked(room: usize, listed: usize) -> usize
-    ensures { λ r. ⌜ Asked room listed r ⌝ }
+    ensures { Asked room listed result }
 {
     if listed < room {
         return States::MAX_ROOM + 1;
@@ -28,8 +19,31 @@ fn asked(room: usize, listed: usize) -> usize
     room
 }
 
-// The comparison, with columns of its own for a list of `listed` records.
-pub fn find(
+// Writes the first `n` records of the columns.
+fn fill(
+    lefts: &[u64],
+    rights: &[u64],
+    parents: &[u16],
+    taken: &[u8],
+    n: usize,
+    records: &mut [PbRecord],
+)
+    requires columns_fit { Fit n (asColumns lefts.now rights.now parents.now taken.now) }
+    requires list_fits { n ≤ length records.old }
+    ensures { records.new ≡ filled (asColumns lefts.now rights.now parents.now taken.now) records.old n }
+{
+    for i in 0..n {
+        records[i] = PbRecord {
+            left: lefts[i],
+            right: rights[i],
+            parent: parents[i],
+            letter: taken[i],
+        };
+    }
+}
+
+// Compares the sets `x` and `y` in a given room, and writes the records that are kept.
+pub fn compare(
     states: usize,
     letters: usize,
     finals: u64,
@@ -37,16 +51,16 @@ pub fn find(
     x: u64,
     y: u64,
     room: usize,
-    listed: usize,
+    records: &mut [PbRecord],
     sequence: &mut [u8],
-) -> Found
-    ensures { λ r. ⌜ Finds states letters finals rows x y room listed sequence r ⌝ }
+) -> PbCompared
+    ensures { ComparedRecords (questionOf states letters finals rows.now x y) room records.old sequence.old result records.new sequence.new }
 {
     let mut lefts = [0u64; States::MAX_ROOM];
     let mut rights = [0u64; States::MAX_ROOM];
     let mut parents = [0u16; States::MAX_ROOM];
     let mut taken = [0u8; States::MAX_ROOM];
-    let asks = asked(room, listed);
+    let asks = asked(room, records.len());
     let answer = comparison::compare(
         states,
         letters,
@@ -62,46 +76,6 @@ pub fn find(
         sequence,
     );
     let compared = crate::answers::compare_answer(answer);
-    Found {
-        compared: compared,
-        lefts: lefts,
-        rights: rights,
-        parents: parents,
-        taken: taken,
-    }
-}
-
-pub fn compared_in(found: Found) -> PbCompared
-    ensures { λ r. ⌜ r ≡ found .compared ⌝ }
-{
-    let compared = found.compared;
+    fill(&lefts, &rights, &parents, &taken, compared.kept, records);
     compared
-}
-
-pub fn kept_in(found: Found) -> usize
-    ensures { λ r. ⌜ r ≡ found .compared .kept ⌝ }
-{
-    let compared = found.compared;
-    compared.kept
-}
-
-// Writes the first `n` records of what was found.
-pub fn fill(found: Found, n: usize, records: &mut [PbRecord])
-    requires { ⌜ (n ≤ maxRoom) × (n ≤ length (now records)) ⌝ }
-    ensures { λ _. ⌜ after records ≡ filled found (before records) n ⌝ }
-{
-    let lefts = found.lefts;
-    let rights = found.rights;
-    let parents = found.parents;
-    let taken = found.taken;
-    let mut i = 0;
-    while i < n {
-        records[i] = PbRecord {
-            left: lefts[i],
-            right: rights[i],
-            parent: parents[i],
-            letter: taken[i],
-        };
-        i += 1;
-    }
 }

@@ -1,11 +1,13 @@
-// What the exports stand on: the record and the answers as a host reads them, the comparison in columns of its own, the check of gathered sides.
+// What the exports stand on: a host's record and the answers as a host reads them, the comparison and the check over a list of records.
+#![tactic(auto)]
 
 pub mod answers; // answers.rt: the answers as a host reads them
-pub mod checks; // checks.rt: the sides of a list of records, and their check
-pub mod compares; // compares.rt: the comparison for a list of records
+pub mod checks; // checks.rt: the check of a list of records
+pub mod compares; // compares.rt: the comparison over a list of records
 
 // A kept record.
 #[repr(C)]
+#[derive(Clone, Copy)]
 pub struct PbRecord {
     pub left: u64,
     pub right: u64,

@@ -1,18 +1,18 @@
 -- The text of an answer, by its cases; and of the answer to a question that is not refused: the text of the walk's outcome. Assumes nothing.
-use mathlib.Core.Path.{_≡_, refl, ap}
-use mathlib.Core.List.{List, [], _∷_, _++_, map}
-use Prim.Native.Nat.{ℕ, _≤_}
+use mathlib.Core.Path.{◌≡◌, refl, ap}
+use mathlib.Core.List.{List, [], ◌∷◌, ◌++◌, map}
+use Prim.Native.Nat.{ℕ, ◌≤◌}
 use native.Mathlib.Omega.{arith}
 use lib.ListN.{length, take, length-map}
-use Rattle·comparison.specs.declared.Answer.{Answer}
-use Rattle·walk.specs.Walk.{Record, leftsOf, rightsOf, Outcome, keptOf, wordOf}
-use Rattle·walk.specs.Walk.Outcome.{Same, Different, Full}
-use Rattle·comparison.specs.Answers.{Lent, answerOf, layOut}
-use Rattle·lent.proofs.Laying.{take-lay}
-use Rattle·text.specs.Text.{word, decimal, line, refusalText}
-use Rattle·events.specs.Events.{eventName}
-use Rattle·report·specs.specs.Report.{recordLines, textOf, longest}
-use Rattle·report·specs.specs.Inner.{pairLines, answerText, Printable}
+use Rattle.comparison.specs.declared.Answer.{Answer}
+use Rattle.walk.specs.Walk.{Record, leftsOf, rightsOf, Outcome, keptOf, wordOf}
+use Rattle.walk.specs.Walk.Outcome.{Same, Different, Full}
+use Rattle.comparison.specs.Answers.{Lent, answerOf, layOut}
+use Rattle.lent.proofs.Laying.{take-lay}
+use Rattle.text.specs.Text.{word, decimal, line, refusalText}
+use Rattle.events.specs.Events.{eventName}
+use Rattle.report.specs.Report.{recordLines, textOf, longest}
+use Rattle.report.specs.Inner.{pairLines, answerText, Printable}
 
 -- ---- by the cases of the code
 
@@ -40,13 +40,13 @@ module _ {answer : Answer} (lefts rights sequence : List ℕ) where
 
 module _ {answer : Answer} {lefts rights sequence out : List ℕ} (p : Printable answer lefts rights sequence out) where
   pub printable-same : {kept examined : ℕ} → answer ≡ Answer.Same kept examined → (kept ≤ length lefts) × (kept ≤ length rights) × (longest kept ≤ length out)
-  printable-same q = (rw q at p .lefts-there, rw q at p .rights-there, rw q at p .text-fits)
+  printable-same q = ((rw q at p).lefts-there, (rw q at p).rights-there, (rw q at p).text-fits)
 
   pub printable-different : {kept examined size : ℕ} → answer ≡ Answer.Different kept examined size → (size ≤ length sequence) × (longest size ≤ length out)
   printable-different {kept} {size = size} q =
-      let there : size ≤ length sequence = rw q at p .sequence-there in
-      let short : size ≤ kept = rw q at p .short in
-      let fits : longest kept ≤ length out = rw q at p .text-fits in
+      let there : size ≤ length sequence = (rw q at p).sequence-there in
+      let short : size ≤ kept = (rw q at p).short in
+      let fits : longest kept ≤ length out = (rw q at p).text-fits in
       (there, omega arith)
 
 -- ---- what was laid is what was kept
@@ -54,15 +54,15 @@ module _ {answer : Answer} {lefts rights sequence out : List ℕ} (p : Printable
 pub record-lines : (kept : List Record) → pairLines (leftsOf kept) (rightsOf kept) ≡ recordLines kept
 unfolding pairLines recordLines
 record-lines [] = refl
-record-lines (r ∷ kept) = ap (λ (l : List ℕ). line (decimal (r .left) ∷ decimal (r .right) ∷ []) ++ l) (record-lines kept)
+record-lines (r ∷ kept) = ap (λ (l : List ℕ). line (decimal r.left ∷ decimal r.right ∷ []) ++ l) (record-lines kept)
 
-pub answer-text : (o : Outcome) (old : Lent) → let new = layOut (keptOf o) (wordOf o) old in answerText (answerOf o) (new .columns .lefts) (new .columns .rights) (new .sequence) ≡ textOf o
+pub answer-text : (o : Outcome) (old : Lent) → let new = layOut (keptOf o) (wordOf o) old in answerText (answerOf o) new.columns.lefts new.columns.rights new.sequence ≡ textOf o
 unfolding answerText textOf
 answer-text (Same kept examined) old =
     rw (
-      take-lay (leftsOf kept) (old .columns .lefts) (length kept) (length-map kept (λ (r : Record). r .left)),
-      take-lay (rightsOf kept) (old .columns .rights) (length kept) (length-map kept (λ (r : Record). r .right)),
+      take-lay (leftsOf kept) old.columns.lefts (length kept) (length-map kept (λ (r : Record). r.left)),
+      take-lay (rightsOf kept) old.columns.rights (length kept) (length-map kept (λ (r : Record). r.right)),
       record-lines kept,
     )
-answer-text (Different kept examined sequence) old = rw (take-lay sequence (old .sequence) (length sequence) refl)
+answer-text (Different kept examined sequence) old = rw (take-lay sequence old.sequence (length sequence) refl)
 answer-text (Full kept examined) old = refl

@@ -2,10 +2,10 @@
 use mathlib.Core.List.{List}
 use Prim.Native.Nat.{ℕ}
 use lib.ListN.{take}
-use Rattle·numbers.specs.Numbers.{AreBytes}
-use Rattle·asking.proofs.Capped.{cap-asks-the-same, cap-refuses-the-same}
-use Rattle·report·specs.specs.Report.{Prints}
-use Rattle·report·specs.specs.Report.Prints.{refuses, answers}
+use Rattle.numbers.specs.Numbers.{AreBytes}
+use Rattle.asking.proofs.Capped.{cap-asks-the-same, cap-refuses-the-same}
+use Rattle.report.specs.Report.{Prints}
+use Rattle.report.specs.Report.Prints.{refuses, answers}
 
 pub cap-prints-the-same : {room : ℕ} {s text : List ℕ} → AreBytes s → Prints room (take 20513 s) text → Prints room s text
 cap-prints-the-same are (refuses r) = refuses (cap-refuses-the-same are r)

@@ -1,17 +1,17 @@
 -- What some texts look like. Assumes nothing.
-use mathlib.Core.Path.{_≡_, refl}
-use mathlib.Core.List.{List, [], _∷_}
-use Prim.Native.Nat.{ℕ, _≤_}
-use Rattle·asking.proofs.Examples.{no-input, pattern-a, asks-a}
-use Rattle·walk.specs.Walk.Outcome.{Same, Different, Full}
-use Rattle·walk.specs.Known.{pair, Row, Holds, Known}
-use Rattle·walk.specs.Known.Known.{row}
-use Rattle·walk.proofs.MoreRoom.{more-room}
-use Rattle·walk.proofs.KnownAnswers.{known-answers}
-use Rattle·text.specs.Text.{word, digits, decimal, spaced, joined, line, refusalText}
-use Rattle·events.specs.Events.{names, eventName}
-use Rattle·report·specs.specs.Report.{recordLines, textOf, Prints}
-use Rattle·report·specs.specs.Report.Prints.{refuses, answers}
+use mathlib.Core.Path.{◌≡◌, refl}
+use mathlib.Core.List.{List, [], ◌∷◌}
+use Prim.Native.Nat.{ℕ, ◌≤◌}
+use Rattle.asking.proofs.Examples.{no-input, pattern-a, asks-a}
+use Rattle.walk.specs.Walk.Outcome.{Same, Different, Full}
+use Rattle.walk.specs.Known.{pair, Row, Holds, Known}
+use Rattle.walk.specs.Known.Known.{row}
+use Rattle.walk.proofs.MoreRoom.{more-room}
+use Rattle.walk.proofs.KnownAnswers.{known-answers}
+use Rattle.text.specs.Text.{word, digits, decimal, spaced, joined, line, refusalText}
+use Rattle.events.specs.Events.{names, eventName}
+use Rattle.report.specs.Report.{recordLines, textOf, Prints}
+use Rattle.report.specs.Report.Prints.{refuses, answers}
 
 -- an empty line for the empty sequence
 empty-sequence : textOf (Different [] 1 []) ≡ word "DIFFERENT 0 1 0\n\n"

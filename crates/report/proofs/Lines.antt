@@ -1,25 +1,25 @@
 -- Lines put piece by piece: what is left of the records' lines, and a line of names. Assumes nothing.
-use mathlib.Core.Path.{_≡_, refl}
-use mathlib.Core.List.{List, [], _∷_, _++_, map}
-use Prim.Native.Nat.{ℕ, _+_, _-_, _≤_, _<_}
+use mathlib.Core.Path.{◌≡◌, refl}
+use mathlib.Core.List.{List, [], ◌∷◌, ◌++◌, map}
+use Prim.Native.Nat.{ℕ, ◌+◌, ◌-◌, ◌≤◌, ◌<◌}
 use native.Mathlib.Numerals.{add-one}
 use native.Mathlib.Omega.{arith}
-use lib.ListN.{length, take, drop, getD, drop-of-length-le}
+use lib.ListN.{length, take, drop, get_or, drop_of_length-le}
 use lib.Seq.{drop-cons, take-length}
-use Rattle·text.specs.Text.{word, decimal, spaced, joined, line}
-use Rattle·text.proofs.Lines.{spaced-length, whole-length}
-use Rattle·events.specs.Events.{eventName}
-use Rattle·report·specs.specs.Inner.{pairLines}
+use Rattle.text.specs.Text.{word, decimal, spaced, joined, line}
+use Rattle.text.proofs.Lines.{spaced-length, whole-length}
+use Rattle.events.specs.Events.{eventName}
+use Rattle.report.specs.Inner.{pairLines}
 
 -- ---- the records' lines from a place on
 
 pub pairs-none : (lefts rights : List ℕ) (i : ℕ) → length lefts ≤ i → pairLines (drop i lefts) (drop i rights) ≡ []
 unfolding pairLines
-pairs-none lefts rights i h = rw (drop-of-length-le lefts h)
+pairs-none lefts rights i h = rw (drop_of_length-le lefts h)
 
 pub pairs-step : (lefts rights : List ℕ) (i : ℕ) → i < length lefts → i < length rights
     → pairLines (drop i lefts) (drop i rights)
-    ≡ line (decimal (getD lefts i 0) ∷ decimal (getD rights i 0) ∷ []) ++ pairLines (drop (i + 1) lefts) (drop (i + 1) rights)
+    ≡ line (decimal (get_or lefts i 0) ∷ decimal (get_or rights i 0) ∷ []) ++ pairLines (drop (i + 1) lefts) (drop (i + 1) rights)
 unfolding pairLines
 pairs-step lefts rights i h k = rw (drop-cons lefts i 0 h, drop-cons rights i 0 k, add-one)
 
@@ -40,7 +40,7 @@ unfolding line joined
 no-names [] h = refl
 no-names (a ∷ s) h = absurd (omega arith)
 
-pub some-names : (s : List ℕ) → (length s ≡ 0 → ⊥) → line (map eventName s) ≡ line (eventName (getD s 0 0) ∷ map eventName (after-first s))
+pub some-names : (s : List ℕ) → (length s ≡ 0 → ⊥) → line (map eventName s) ≡ line (eventName (get_or s 0 0) ∷ map eventName (after-first s))
 some-names [] h = absurd (h refl)
 some-names (a ∷ s) h =
     let size : length (a ∷ s) - 1 ≡ length s = omega arith in

@@ -2,14 +2,12 @@
 --   pairLines lefts rights   a line for each place of the two lists: left and right (`record-lines`: those of the records whose sides they are)
 --   answerText answer ..     what is printed of the comparison's answer, by the lists that it left (`answer-text`: the text of the walk's outcome)
 --   Printable answer ..      what the lists and the byte buffer have to be for that
-use mathlib.Core.List.{List, [], _∷_, _++_, map}
-use Prim.Native.Nat.{ℕ, _≤_}
-use lib.ListN.{length, take}
-use Rattle·comparison.specs.declared.Answer.{Answer}
-use Rattle·comparison.specs.Answers.{valuesOf}
-use Rattle·text.specs.Text.{word, decimal, line, refusalText}
-use Rattle·events.specs.Events.{eventName}
-use Rattle·report·specs.specs.Report.{longest}
+use Rattle.std.specs.Prelude.{List, [], ◌∷◌, ◌++◌, map, ℕ, ◌≤◌, length, take}
+use Rattle.comparison.specs.declared.Answer.{Answer}
+use Rattle.comparison.specs.Answers.{valuesOf}
+use Rattle.text.specs.Text.{word, decimal, line, refusalText}
+use Rattle.events.specs.Events.{eventName}
+use Rattle.report.specs.Report.{longest}
 
 unfoldable pub pairLines : List ℕ → List ℕ → List ℕ
 pairLines [] rights = []
@@ -26,8 +24,8 @@ answerText (Answer.Refused number) lefts rights sequence = refusalText number 0
 
 -- a list and sequence bytes that have what the answer names, and a buffer for the longest text of as many records
 pub record Printable (answer : Answer) (lefts rights sequence out : List ℕ) : Type 0 where
-  pub lefts-there : valuesOf answer .kept ≤ length lefts
-  pub rights-there : valuesOf answer .kept ≤ length rights
-  pub sequence-there : valuesOf answer .length ≤ length sequence
-  pub short : valuesOf answer .length ≤ valuesOf answer .kept
-  pub text-fits : longest (valuesOf answer .kept) ≤ length out
+  pub lefts-there : (valuesOf answer).kept ≤ length lefts
+  pub rights-there : (valuesOf answer).kept ≤ length rights
+  pub sequence-there : (valuesOf answer).length ≤ length sequence
+  pub short : (valuesOf answer).length ≤ (valuesOf answer).kept
+  pub text-fits : longest (valuesOf answer).kept ≤ length out

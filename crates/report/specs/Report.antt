@@ -7,22 +7,19 @@
 --   longest room              no text is longer
 --   Reported room input old r new
 --                             the text stands at the start of the byte buffer, r bytes, and the rest is as it was (`reports-determined`)
---   Reports, Leaves           of the slices lent: what the byte buffer holds then, and what all else holds (`answers-determined`)
-use mathlib.Core.Path.{_≡_}
-use mathlib.Core.List.{List, [], _∷_, _++_, map}
-use Prim.Native.Nat.{ℕ, _+_, _*_, _≤_}
-use lib.ListN.{length, take}
-use Rattle·lent.specs.Lent.{Slice, before, after, Put}
-use Rattle·walk.specs.Walk.{Question, Record, Outcome, Walk}
-use Rattle·walk.specs.Walk.Outcome.{Same, Different, Full}
-use Rattle·asking.specs.declared.Asked.{Asked}
-use Rattle·asking.specs.Asking.{Asks, Refuses, AnswersFile}
-use Rattle·text.specs.Text.{word, decimal, line, refusalText}
-use Rattle·events.specs.Events.{eventName}
+--   Leaves                    what all else that is lent holds then (`answers-determined`)
+use Rattle.std.specs.Prelude.{◌≡◌, List, [], ◌∷◌, ◌++◌, map, ℕ, ◌+◌, ◌*◌, ◌≤◌, length, take}
+use Rattle.lent.specs.Lent.{Slice, Put}
+use Rattle.walk.specs.Walk.{Question, Record, Outcome, Walk}
+use Rattle.walk.specs.Walk.Outcome.{Same, Different, Full}
+use Rattle.asking.specs.declared.Asked.{Asked}
+use Rattle.asking.specs.Asking.{Asks, Refuses, AnswersFile}
+use Rattle.text.specs.Text.{word, decimal, line, refusalText}
+use Rattle.events.specs.Events.{eventName}
 
 unfoldable pub recordLines : List Record → List ℕ
 recordLines [] = []
-recordLines (r ∷ kept) = line (decimal (r .left) ∷ decimal (r .right) ∷ []) ++ recordLines kept
+recordLines (r ∷ kept) = line (decimal r.left ∷ decimal r.right ∷ []) ++ recordLines kept
 
 -- an empty sequence is an empty line (`no-names`)
 unfoldable pub textOf : Outcome → List ℕ
@@ -47,9 +44,6 @@ pub record Reported (room : ℕ) (input old : List ℕ) (r : ℕ) (new : List �
   pub within : r ≤ length new
   pub counted : r ≡ length (take r new)
 
-abbrev pub Reports : Slice → ℕ → Slice → ℕ → Type 0
-Reports bytes room out r = Reported room (before bytes) (before out) r (after out)
-
 -- the rows, the records and the sequence are those of what was answered
-abbrev pub Leaves : Slice → ℕ → Slice → Slice → Slice → Slice → Slice → Slice → Type 0
+abbrev pub Leaves : List ℕ → ℕ → Slice → Slice → Slice → Slice → Slice → Slice → Type 0
 Leaves bytes room rows lefts rights parents taken sequence = (asked : Asked) × AnswersFile bytes room rows lefts rights parents taken sequence asked

@@ -1,26 +1,22 @@
 // The exact bytes that `compare` prints, put into a lent buffer.
-ghost use mathlib.Core.List.{_∷_, [], _++_, map};
-ghost use mathlib.Core.Path.{_≡_};
-ghost use Prim.Native.Nat.{_+_, _≤_};
-ghost use lib.ListN.{length};
-ghost use Rattle·lent.specs.Lent.{before, Puts};
-ghost use Rattle·text.specs.Text.{word, decimal, spaced, line};
-ghost use Rattle·events.specs.Events.{eventName};
-ghost use Rattle·asking.specs.Asking.{Lends};
-ghost use Rattle·report·specs.specs.Report.{longest, Reports, Leaves};
-ghost use Rattle·report·specs.specs.Inner.{pairLines, answerText, Printable};
+#![tactic(auto)]
+
+ghost use Rattle.std.specs.Prelude.{◌∷◌, [], ◌++◌, map, ◌≡◌, ◌+◌, ◌≤◌, length};
+ghost use Rattle.lent.specs.Lent.{Put};
+ghost use Rattle.text.specs.Text.{word, decimal, spaced, line};
+ghost use Rattle.events.specs.Events.{eventName};
+ghost use Rattle.asking.specs.Asking.{Lends};
+ghost use Rattle.report.specs.Report.{longest, Reported, Leaves};
+ghost use Rattle.report.specs.Inner.{pairLines, answerText, Printable};
+
 use asking::Asked;
 use comparison::Answer;
 use events::put_name;
-use text::put_byte;
-use text::put_decimal;
-use text::put_head;
-use text::put_number;
-use text::put_refusal;
+use text::{put_byte, put_decimal, put_head, put_number, put_refusal};
 
 fn put_record(out: &mut [u8], at: usize, left: u64, right: u64) -> usize
-    requires { ⌜ at + length (line (decimal left ∷ decimal right ∷ [])) ≤ length (now out) ⌝ }
-    ensures { λ r. ⌜ Puts out at (line (decimal left ∷ decimal right ∷ [])) r ⌝ }
+    requires { at + length (line (decimal left ∷ decimal right ∷ [])) ≤ length out.old }
+    ensures { Put out.old at (line (decimal left ∷ decimal right ∷ [])) result out.new }
 {
     let first = put_decimal(out, at, left);
     let second = put_number(out, first, right);
@@ -29,9 +25,9 @@ fn put_record(out: &mut [u8], at: usize, left: u64, right: u64) -> usize
 
 // A line for each record.
 fn put_records(out: &mut [u8], at: usize, lefts: &[u64], rights: &[u64]) -> usize
-    requires { ⌜ length (now lefts) ≡ length (now rights) ⌝ }
-    requires { ⌜ at + length (pairLines (now lefts) (now rights)) ≤ length (now out) ⌝ }
-    ensures { λ r. ⌜ Puts out at (pairLines (before lefts) (before rights)) r ⌝ }
+    requires lefts_len { length lefts.now ≡ length rights.now }
+    requires rights_in_bounds { at + length (pairLines lefts.now rights.now) ≤ length out.old }
+    ensures { Put out.old at (pairLines lefts.now rights.now) result out.new }
 {
     let mut place = at;
     let mut record: usize = 0;
@@ -44,8 +40,8 @@ fn put_records(out: &mut [u8], at: usize, lefts: &[u64], rights: &[u64]) -> usiz
 
 // A name with a space in front, as the later ones of a line have it.
 fn put_event(out: &mut [u8], at: usize, letter: u8) -> usize
-    requires { ⌜ at + length (word " " ++ eventName letter) ≤ length (now out) ⌝ }
-    ensures { λ r. ⌜ Puts out at (word " " ++ eventName letter) r ⌝ }
+    requires { at + length (word " " ++ eventName letter) ≤ length out.old }
+    ensures { Put out.old at (word " " ++ eventName letter) result out.new }
 {
     let place = put_byte(out, at, b' ');
     put_name(out, place, letter)
@@ -53,8 +49,8 @@ fn put_event(out: &mut [u8], at: usize, letter: u8) -> usize
 
 // Names, each with a space in front.
 fn put_events(out: &mut [u8], at: usize, letters: &[u8]) -> usize
-    requires { ⌜ at + length (spaced (map eventName (now letters))) ≤ length (now out) ⌝ }
-    ensures { λ r. ⌜ Puts out at (spaced (map eventName (before letters))) r ⌝ }
+    requires { at + length (spaced (map eventName letters.now)) ≤ length out.old }
+    ensures { Put out.old at (spaced (map eventName letters.now)) result out.new }
 {
     let mut place = at;
     let mut i: usize = 0;
@@ -67,8 +63,8 @@ fn put_events(out: &mut [u8], at: usize, letters: &[u8]) -> usize
 
 // One line of event names; an empty line for the empty sequence.
 fn put_sequence(out: &mut [u8], at: usize, sequence: &[u8]) -> usize
-    requires { ⌜ at + length (line (map eventName (now sequence))) ≤ length (now out) ⌝ }
-    ensures { λ r. ⌜ Puts out at (line (map eventName (before sequence))) r ⌝ }
+    requires { at + length (line (map eventName sequence.now)) ≤ length out.old }
+    ensures { Put out.old at (line (map eventName sequence.now)) result out.new }
 {
     if sequence.len() == 0 {
         return put_byte(out, at, b'\n');
@@ -86,8 +82,8 @@ fn put_answer(
     rights: &[u64],
     sequence: &[u8],
 ) -> usize
-    requires { ⌜ Printable answer (now lefts) (now rights) (now sequence) (now out) ⌝ }
-    ensures { λ r. ⌜ Puts out 0 (answerText answer (before lefts) (before rights) (before sequence)) r ⌝ }
+    requires { Printable answer lefts.now rights.now sequence.now out.old }
+    ensures { Put out.old 0 (answerText answer lefts.now rights.now sequence.now) result out.new }
 {
     match answer {
         Answer::Same(kept, examined) => {
@@ -120,10 +116,10 @@ pub fn report(
     sequence: &mut [u8],
     out: &mut [u8],
 ) -> usize
-    requires { ⌜ Lends room rows lefts rights parents taken sequence ⌝ }
-    requires { ⌜ longest room ≤ length (now out) ⌝ }
-    ensures { λ r. ⌜ Reports bytes room out r ⌝ }
-    ensures { λ _. ⌜ Leaves bytes room rows lefts rights parents taken sequence ⌝ }
+    requires lends { Lends room rows lefts rights parents taken sequence }
+    requires room_in_bounds { longest room ≤ length out.old }
+    ensures reports { Reported room bytes.now out.old result out.new }
+    ensures leaves { Leaves bytes.now room rows lefts rights parents taken sequence }
 {
     let asked = asking::ask(bytes, room, rows, lefts, rights, parents, taken, sequence);
     match asked {

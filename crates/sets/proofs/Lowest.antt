@@ -1,16 +1,16 @@
 -- The lowest state of a set that is not empty, as the code finds it: by trailing zeros, and n & (n - 1) for the rest. Assumes nothing.
-use mathlib.Core.Path.{_≡_, refl, sym, ap, ap₂, _∙_, subst}
-use mathlib.Core.Logic.{_↔_, ⊎-elim}
-use Prim.Native.Nat.{ℕ, zero, suc, _+_, _-_, _*_, _/_, _%_, _^_, _≤_, _<_, min}
-use native.Mathlib.Nat.{one-mul, zero-mul, zero-div, add-mul, add-zero, lt-of-not-le, lt-of-lt-of-le, le-trans, pow-suc, mul-assoc, mul-comm, mod-lt, lt-irrefl, eq-or-lt-of-le}
-use native.Mathlib.Decide.{decLt}
+use mathlib.Core.Path.{◌≡◌, refl, sym, ap, ap₂, ◌∙◌, subst}
+use mathlib.Core.Logic.{◌↔◌, ⊎_elim}
+use Prim.Native.Nat.{ℕ, zero, suc, ◌+◌, ◌-◌, ◌*◌, ◌/◌, ◌%◌, ◌^◌, ◌≤◌, ◌<◌, min}
+use native.Mathlib.Nat.{one-mul, zero-mul, zero-div, add-mul, add-zero, lt_of_not-le, lt_of_lt_of_le, le_trans, pow-suc, mul_assoc, mul_comm, mod-lt, lt_irrefl, eq-or-lt_of_le}
+use native.Mathlib.Decide.{dec_lt}
 use native.Mathlib.Numerals.{add-one}
 use native.Mathlib.Omega.{arith}
 use lib.Dec.{lit<}
-use lib.Pow.{pow-add, pow-pos, pow-mono, shl-shr, shr-shr, shr-lt, ones-lt}
-use lib.Bits.{bitAnd, and-step, and-self, and-block, and-zero-l}
-use lib.Count.{trailingZeros, under}
-use Rattle·sets·specs.specs.Sets.{bit, Has}
+use lib.Pow.{pow-add, pow_pos, pow_mono, shl-shr, shr-shr, shr_lt, ones_lt}
+use lib.Bits.{bit_and, and_step, and_self, and_block, and_zero_l}
+use lib.Count.{count_trailing_zeros, under}
+use Rattle.sets.specs.Sets.{bit, Has}
 
 -- ---- parity
 
@@ -33,25 +33,25 @@ odd-parts m p = add-mul (m * 2) 1 p ∙ ap (λ (x : ℕ). m * 2 * p + x) (one-mu
 -- ---- a number is an odd one times a power of two
 
 half-lt : {n : ℕ} (k : ℕ) → n < 2 ^ suc k → n / 2 < 2 ^ k
-half-lt {n} k h = shr-lt k 1 (subst (λ (x : ℕ). n < 2 ^ x) (sym (add-one k)) h)
+half-lt {n} k h = shr_lt k 1 (subst (λ (x : ℕ). n < 2 ^ x) (sym (add-one k)) h)
 
 step : (n d t : ℕ) → n % 2 ≡ d → d < 2 → (zero < n / 2 → (m : ℕ) × (n / 2 ≡ (m * 2 + 1) * 2 ^ t)) → zero < n → (m : ℕ) × (n ≡ (m * 2 + 1) * 2 ^ under d t)
 step n zero t e l ih pos =
     let q = ih (omega (arith, e, pos)) in
-    (q .0, omega (arith, e) ∙ ap (λ (x : ℕ). x * 2) (q .1) ∙ mul-assoc (q .0 * 2 + 1) (2 ^ t) 2 ∙ ap (λ (x : ℕ). (q .0 * 2 + 1) * x) (sym (pow-suc 2 t)))
+    (q.0, omega (arith, e) ∙ ap (λ (x : ℕ). x * 2) q.1 ∙ mul_assoc (q.0 * 2 + 1) (2 ^ t) 2 ∙ ap (λ (x : ℕ). (q.0 * 2 + 1) * x) (sym (pow-suc 2 t)))
 step n (suc zero) t e l ih pos = (n / 2, omega (arith, e))
 step n (suc (suc d)) t e l ih pos = absurd (omega (arith, l))
 
-lowest-odd : (k n : ℕ) → zero < n → n < 2 ^ k → (m : ℕ) × (n ≡ (m * 2 + 1) * 2 ^ trailingZeros k n)
-unfolding trailingZeros
+lowest-odd : (k n : ℕ) → zero < n → n < 2 ^ k → (m : ℕ) × (n ≡ (m * 2 + 1) * 2 ^ count_trailing_zeros k n)
+unfolding count_trailing_zeros
 lowest-odd zero n pos h = absurd (omega (arith, pos, h))
-lowest-odd (suc k) n pos h = step n (n % 2) (trailingZeros k (n / 2)) refl (mod-lt n (lit< tt)) (λ p. lowest-odd k (n / 2) p (half-lt k h)) pos
+lowest-odd (suc k) n pos h = step n (n % 2) (count_trailing_zeros k (n / 2)) refl (mod-lt n (lit< tt)) (λ p. lowest-odd k (n / 2) p (half-lt k h)) pos
 
 -- an odd number loses its lowest digit
-odd-and : (m : ℕ) → bitAnd (m * 2 + 1) (m * 2) ≡ m * 2
+odd-and : (m : ℕ) → bit_and (m * 2 + 1) (m * 2) ≡ m * 2
 odd-and m =
-    and-step (m * 2 + 1) (m * 2)
-    ∙ ap₂ (λ (x y : ℕ). x * 2 + y) (ap₂ bitAnd (half-odd m) (half-even m) ∙ and-self m) (ap₂ min (odd m) (even m))
+    and_step (m * 2 + 1) (m * 2)
+    ∙ ap₂ (λ (x y : ℕ). x * 2 + y) (ap₂ bit_and (half-odd m) (half-even m) ∙ and_self m) (ap₂ min (odd m) (even m))
     ∙ add-zero (m * 2)
 
 sum : (a p : ℕ) → zero < p → a + p - 1 ≡ a + (p - 1)
@@ -60,23 +60,23 @@ sum a p h = omega (arith, h)
 back : (a p : ℕ) → a ≡ a + p - p
 back a p = omega arith
 
-drop-at : (m t : ℕ) → bitAnd ((m * 2 + 1) * 2 ^ t) ((m * 2 + 1) * 2 ^ t - 1) ≡ (m * 2 + 1) * 2 ^ t - 2 ^ t
-drop-at m t =
-    ap₂ bitAnd (sym (add-zero ((m * 2 + 1) * 2 ^ t))) (ap (λ (x : ℕ). x - 1) (odd-parts m (2 ^ t)) ∙ sum (m * 2 * 2 ^ t) (2 ^ t) (pow-pos t))
-    ∙ and-block t (m * 2 + 1) (m * 2) 0 (2 ^ t - 1) (pow-pos t) (ones-lt t)
-    ∙ ap₂ (λ (x y : ℕ). x * 2 ^ t + y) (odd-and m) (and-zero-l (2 ^ t - 1))
+drop_at : (m t : ℕ) → bit_and ((m * 2 + 1) * 2 ^ t) ((m * 2 + 1) * 2 ^ t - 1) ≡ (m * 2 + 1) * 2 ^ t - 2 ^ t
+drop_at m t =
+    ap₂ bit_and (sym (add-zero ((m * 2 + 1) * 2 ^ t))) (ap (λ (x : ℕ). x - 1) (odd-parts m (2 ^ t)) ∙ sum (m * 2 * 2 ^ t) (2 ^ t) (pow_pos t))
+    ∙ and_block t (m * 2 + 1) (m * 2) 0 (2 ^ t - 1) (pow_pos t) (ones_lt t)
+    ∙ ap₂ (λ (x y : ℕ). x * 2 ^ t + y) (odd-and m) (and_zero_l (2 ^ t - 1))
     ∙ add-zero (m * 2 * 2 ^ t) ∙ back (m * 2 * 2 ^ t) (2 ^ t) ∙ ap (λ (x : ℕ). x - 2 ^ t) (sym (odd-parts m (2 ^ t)))
 
-drop-lowest : (k n : ℕ) → zero < n → n < 2 ^ k → bitAnd n (n - 1) ≡ n - 2 ^ trailingZeros k n
+drop-lowest : (k n : ℕ) → zero < n → n < 2 ^ k → bit_and n (n - 1) ≡ n - 2 ^ count_trailing_zeros k n
 drop-lowest k n pos h =
     let q = lowest-odd k n pos h in
-    ap (λ (x : ℕ). bitAnd x (x - 1)) (q .1) ∙ drop-at (q .0) (trailingZeros k n) ∙ ap (λ (x : ℕ). x - 2 ^ trailingZeros k n) (sym (q .1))
+    ap (λ (x : ℕ). bit_and x (x - 1)) q.1 ∙ drop_at q.0 (count_trailing_zeros k n) ∙ ap (λ (x : ℕ). x - 2 ^ count_trailing_zeros k n) (sym q.1)
 
 -- the place of the lowest set bit is below the width
-pub lowest-lt : (k n : ℕ) → zero < n → n < 2 ^ k → trailingZeros k n < k
+pub lowest-lt : (k n : ℕ) → zero < n → n < 2 ^ k → count_trailing_zeros k n < k
 lowest-lt k n pos h =
     let q = lowest-odd k n pos h in
-    lt-of-not-le (λ le. lt-irrefl n (lt-of-lt-of-le h (le-trans (pow-mono le) (subst (λ (x : ℕ). 2 ^ trailingZeros k n ≤ x) (sym (q .1)) (one-le (q .0) (2 ^ trailingZeros k n))))))
+    lt_of_not-le (λ le. lt_irrefl n (lt_of_lt_of_le h (le_trans (pow_mono le) (subst (λ (x : ℕ). 2 ^ count_trailing_zeros k n ≤ x) (sym q.1) (one-le q.0 (2 ^ count_trailing_zeros k n))))))
   where
     one-le : (m p : ℕ) → p ≤ (m * 2 + 1) * p
     one-le m p = omega (arith, odd-parts m p)
@@ -86,8 +86,8 @@ lowest-lt k n pos h =
 bit-below : (a s j : ℕ) → bit (a * 2 ^ (s + suc j)) s ≡ 0
 bit-below a s j =
     let e : a * 2 ^ (s + suc j) ≡ a * 2 ^ j * 2 * 2 ^ s =
-    ap (λ (x : ℕ). a * x) (pow-add 2 s (suc j) ∙ mul-comm (2 ^ s) (2 ^ suc j)) ∙ sym (mul-assoc a (2 ^ suc j) (2 ^ s))
-    ∙ ap (λ (x : ℕ). a * x * 2 ^ s) (pow-suc 2 j) ∙ ap (λ (x : ℕ). x * 2 ^ s) (sym (mul-assoc a (2 ^ j) 2)) in
+    ap (λ (x : ℕ). a * x) (pow-add 2 s (suc j) ∙ mul_comm (2 ^ s) (2 ^ suc j)) ∙ sym (mul_assoc a (2 ^ suc j) (2 ^ s))
+    ∙ ap (λ (x : ℕ). a * x * 2 ^ s) (pow-suc 2 j) ∙ ap (λ (x : ℕ). x * 2 ^ s) (sym (mul_assoc a (2 ^ j) 2)) in
     ap (λ (x : ℕ). x / 2 ^ s % 2) e ∙ ap (λ (x : ℕ). x % 2) (shl-shr (a * 2 ^ j * 2) s) ∙ even (a * 2 ^ j)
 
 bit-lower : (a t s : ℕ) → s < t → bit (a * 2 ^ t) s ≡ 0
@@ -117,13 +117,13 @@ pub record Lowest (n s r : ℕ) : Type 0 where
   pub others : (i : ℕ) → s < i → bit r i ≡ bit n i
   pub less : r < n
 
-pub lowest-of : (n : ℕ) → 0 < n → n < 2 ^ 64 → Lowest n (trailingZeros 64 n) (bitAnd n (n - 1))
+pub lowest-of : (n : ℕ) → 0 < n → n < 2 ^ 64 → Lowest n (count_trailing_zeros 64 n) (bit_and n (n - 1))
 lowest-of n pos h =
-    let s = trailingZeros 64 n in
+    let s = count_trailing_zeros 64 n in
     let (q, e) = lowest-odd 64 n pos h in
     let parts : n ≡ q * 2 * 2 ^ s + 2 ^ s = e ∙ odd-parts q (2 ^ s) in
-    let d : bitAnd n (n - 1) ≡ q * 2 * 2 ^ s = drop-lowest 64 n pos h ∙ minus n (q * 2 * 2 ^ s) (2 ^ s) parts in
-    make n q s (bitAnd n (n - 1)) e d (minus-lt n (q * 2 * 2 ^ s) (2 ^ s) parts (pow-pos s))
+    let d : bit_and n (n - 1) ≡ q * 2 * 2 ^ s = drop-lowest 64 n pos h ∙ minus n (q * 2 * 2 ^ s) (2 ^ s) parts in
+    make n q s (bit_and n (n - 1)) e d (minus-lt n (q * 2 * 2 ^ s) (2 ^ s) parts (pow_pos s))
   where
     minus : (n a p : ℕ) → n ≡ a + p → n - p ≡ a
     minus n a p e = omega arith
@@ -132,7 +132,7 @@ lowest-of n pos h =
     minus-lt n a p e h = omega arith
 
     top : (q s i : ℕ) → i ≤ s → bit (q * 2 * 2 ^ s) i ≡ 0
-    top q s i l = ⊎-elim (λ (z : i ≡ s). rw z (ap (λ (x : ℕ). x % 2) (shl-shr (q * 2) s) ∙ even q)) (λ b. bit-lower (q * 2) s i b) (eq-or-lt-of-le l)
+    top q s i l = ⊎_elim (λ (z : i ≡ s). rw z (ap (λ (x : ℕ). x % 2) (shl-shr (q * 2) s) ∙ even q)) (λ b. bit-lower (q * 2) s i b) (eq-or-lt_of_le l)
 
     make : (n q s r : ℕ) → n ≡ (q * 2 + 1) * 2 ^ s → r ≡ q * 2 * 2 ^ s → q * 2 * 2 ^ s < n → Lowest n s r
     make n q s r e d lt =
@@ -151,7 +151,7 @@ pub single-members : (s t : ℕ) → Has (2 ^ s) t ↔ (t ≡ s)
 single-members s t = (to, λ e. rw e (record { is-one = rw one-mul at (bit-at 0 s) }))
   where
     to : Has (2 ^ s) t → t ≡ s
-    to h = pick (decLt t s) (decLt s t)
+    to h = pick (dec_lt t s) (dec_lt s t)
       where
         below : t < s → bit (2 ^ s) t ≡ 0
         below l = rw one-mul at (bit-lower 1 s t l)
@@ -160,6 +160,6 @@ single-members s t = (to, λ e. rw e (record { is-one = rw one-mul at (bit-at 0 
         above l = (rw (one-mul, zero-mul) at (bit-same 0 s t l)) ∙ ap (λ (x : ℕ). x % 2) (zero-div (2 ^ t))
 
         pick : Dec (t < s) → Dec (s < t) → t ≡ s
-        pick (yes l) d = absurd (omega (arith, below l, h .is-one))
-        pick (no f) (yes l) = absurd (omega (arith, above l, h .is-one))
+        pick (yes l) d = absurd (omega (arith, below l, h.is-one))
+        pick (no f) (yes l) = absurd (omega (arith, above l, h.is-one))
         pick (no f) (no g) = omega arith

@@ -1,5 +1,5 @@
 -- The two rooms: the largest that may be asked for, and the one of a call that names none. `States::MAX_ROOM` and `States::DEFAULT_ROOM` are these numbers.
-use Prim.Native.Nat.{ℕ}
+use Rattle.std.specs.Prelude.{ℕ}
 
 abbrev pub maxRoom : ℕ
 maxRoom = 1024

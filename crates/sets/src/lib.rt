@@ -1,12 +1,14 @@
 // Sets of states, as masks of 64 bits: bit s for state s.
-ghost use mathlib.Core.Path.{_≡_};
-ghost use Prim.Native.Nat.{_<_, _^_};
-ghost use lib.Bits.{bitOr};
-ghost use Rattle·verdict.specs.Tests.{Decides};
-ghost use Rattle·sets·specs.specs.Sets;
-ghost use Rattle·sets·specs.specs.Sets.{Within};
+#![tactic(auto)]
+
+ghost use Rattle.std.specs.Prelude.{◌≡◌, ◌<◌, ◌^◌};
+ghost use Rattle.std.specs.Int.Bits.{bit_or};
+ghost use Rattle.verdict.specs.Tests.{Decides};
+ghost use Rattle.sets.specs.Sets;
+ghost use Rattle.sets.specs.Sets.{Within};
 
 // A set of states as a value of its own, and the two numbers that go with lists of pairs of them.
+#[derive(Drop)]
 pub struct States {
     pub mask: u64,
 }
@@ -20,15 +22,15 @@ impl States {
 
     // The set of no states.
     pub fn empty() -> States
-        ensures { λ r. ⌜ r .mask ≡ 0 ⌝ }
+        ensures { result.mask ≡ 0 }
     {
         States { mask: 0 }
     }
 
     // The set of the one state `s`.
     pub fn single(s: usize) -> States
-        requires { ⌜ s < 64 ⌝ }
-        ensures { λ r. ⌜ r .mask ≡ 2 ^ s ⌝ }
+        requires { s < 64 }
+        ensures { result.mask ≡ 2 ^ s }
     {
         States { mask: 1u64 << s }
     }
@@ -36,21 +38,21 @@ impl States {
 
 // The states of either set.
 pub fn union(a: u64, b: u64) -> u64
-    ensures { λ r. ⌜ r ≡ bitOr a b ⌝ }
+    ensures { result ≡ bit_or a b }
 {
     a | b
 }
 
 // Whether each state of `a` is in `c`.
 pub fn within(a: u64, c: u64) -> bool
-    ensures { λ r. ⌜ Decides (Within a c) r ⌝ }
+    ensures { Decides (Within a c) result }
 {
     a & c == a
 }
 
 // Whether two sets have a state in common.
 pub fn meets(a: u64, b: u64) -> bool
-    ensures { λ r. ⌜ r ≡ Sets.meets a b ⌝ }
+    ensures { result ≡ Sets.meets a b }
 {
     a & b != 0
 }

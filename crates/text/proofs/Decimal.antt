@@ -1,14 +1,14 @@
 -- What a decimal is: its digits, the most significant first, read back as the number. Assumes nothing.
-use mathlib.Core.Path.{_≡_, refl, sym, ap, _∙_}
-use mathlib.Core.List.{List, [], _∷_, _++_}
-use Prim.Native.Nat.{ℕ, zero, suc, _+_, _*_, _-_, _/_, _%_, _^_, _<_, _≤_}
-use native.Mathlib.Decide.{decLt}
+use mathlib.Core.Path.{◌≡◌, refl, sym, ap, ◌∙◌}
+use mathlib.Core.List.{List, [], ◌∷◌, ◌++◌}
+use Prim.Native.Nat.{ℕ, zero, suc, ◌+◌, ◌*◌, ◌-◌, ◌/◌, ◌%◌, ◌^◌, ◌<◌, ◌≤◌}
+use native.Mathlib.Decide.{dec_lt}
 use native.Mathlib.Nat.{pow-suc, pow-zero}
 use native.Mathlib.Omega.{arith}
 use borrow.Author.Tests.{lt-ltb, le-ltb}
-use lib.ListN.{length, getD, length-append, List·getD-append}
-use lib.Seq.{getD-append-seam}
-use Rattle·text·specs.specs.Text.{word, digit, digits, decimal}
+use lib.ListN.{length, get_or, length-append, get_or-append}
+use lib.Seq.{get_or-append_seam}
+use Rattle.text.specs.Text.{word, digit, digits, decimal}
 
 -- ---- one digit, or those of a tenth and then the last
 
@@ -24,7 +24,7 @@ digits-more m v h = rw (le-ltb v 10 h)
 digits-enough : (m v : ℕ) → v < 10 ^ suc m → digits (suc m) v ≡ digits (suc (suc m)) v
 digits-enough zero v h = let l : v < 10 = omega (arith, pow-suc 10 0, pow-zero 10) in digits-last 0 v l ∙ sym (digits-last 1 v l)
 digits-enough (suc m) v h =
-    elim (decLt v 10) [
+    elim (dec_lt v 10) [
       | yes l ↦ digits-last (suc m) v l ∙ sym (digits-last (suc (suc m)) v l)
       | no n ↦
           let l : 10 ≤ v = omega arith in
@@ -45,7 +45,7 @@ decimal-more v s h = digits-more 19 v h ∙ ap (λ (t : List ℕ). t ++ (digit (
 
 digits-some : (m v : ℕ) → 0 < length (digits (suc m) v)
 digits-some m v =
-    elim (decLt v 10) [
+    elim (dec_lt v 10) [
       | yes l ↦ rw (digits-last m v l) (omega arith)
       | no n ↦ rw (digits-more m v (omega arith)) (omega (arith, length-append (digits m (v / 10)) (digit (v % 10) ∷ [])))
     ]
@@ -54,7 +54,7 @@ digits-short : (m v : ℕ) → length (digits m v) ≤ m
 unfolding digits
 digits-short zero v = omega arith
 digits-short (suc m) v =
-    elim (decLt v 10) [
+    elim (dec_lt v 10) [
       | yes l ↦ rw (digits-last m v l) (omega arith)
       | no n ↦
           rw (digits-more m v (omega arith))
@@ -75,7 +75,7 @@ module _ (P : ℕ → List ℕ → Type 0) (one : (v : ℕ) → v < 10 → P v (
   digits-ind : (m v : ℕ) → v < 10 ^ suc m → P v (digits (suc m) v)
   digits-ind zero v h = let l : v < 10 = omega (arith, pow-suc 10 0, pow-zero 10) in rw (digits-last 0 v l) (one v l)
   digits-ind (suc m) v h =
-      elim (decLt v 10) [
+      elim (dec_lt v 10) [
         | yes l ↦ rw (digits-last (suc m) v l) (one v l)
         | no n ↦
             let l : 10 ≤ v = omega arith in
@@ -108,31 +108,31 @@ pub decimal-injective : (u v : ℕ) → u < 2 ^ 64 → v < 2 ^ 64 → decimal u 
 decimal-injective u v g h e = sym (decimal-reads u g) ∙ ap (readOn 0) e ∙ decimal-reads v h
 
 -- every byte is a digit
-pub decimal-digits : (v : ℕ) → v < 2 ^ 64 → (i : ℕ) → i < length (decimal v) → (48 ≤ getD (decimal v) i 0) × (getD (decimal v) i 0 < 58)
-decimal-digits = decimal-ind (λ v ds. (i : ℕ) → i < length ds → (48 ≤ getD ds i 0) × (getD ds i 0 < 58)) one more
+pub decimal-digits : (v : ℕ) → v < 2 ^ 64 → (i : ℕ) → i < length (decimal v) → (48 ≤ get_or (decimal v) i 0) × (get_or (decimal v) i 0 < 58)
+decimal-digits = decimal-ind (λ v ds. (i : ℕ) → i < length ds → (48 ≤ get_or ds i 0) × (get_or ds i 0 < 58)) one more
   where
-    one : (v : ℕ) → v < 10 → (i : ℕ) → i < 1 → (48 ≤ getD (digit v ∷ []) i 0) × (getD (digit v ∷ []) i 0 < 58)
+    one : (v : ℕ) → v < 10 → (i : ℕ) → i < 1 → (48 ≤ get_or (digit v ∷ []) i 0) × (get_or (digit v ∷ []) i 0 < 58)
     one v h zero l = (omega arith, omega arith)
     one v h (suc i) l = absurd (omega arith)
 
-    more : (v : ℕ) (ds : List ℕ) → 10 ≤ v → ((i : ℕ) → i < length ds → (48 ≤ getD ds i 0) × (getD ds i 0 < 58)) → (i : ℕ)
-        → i < length (ds ++ (digit (v % 10) ∷ [])) → (48 ≤ getD (ds ++ (digit (v % 10) ∷ [])) i 0) × (getD (ds ++ (digit (v % 10) ∷ [])) i 0 < 58)
+    more : (v : ℕ) (ds : List ℕ) → 10 ≤ v → ((i : ℕ) → i < length ds → (48 ≤ get_or ds i 0) × (get_or ds i 0 < 58)) → (i : ℕ)
+        → i < length (ds ++ (digit (v % 10) ∷ [])) → (48 ≤ get_or (ds ++ (digit (v % 10) ∷ [])) i 0) × (get_or (ds ++ (digit (v % 10) ∷ [])) i 0 < 58)
     more v ds h r i l =
-        elim (decLt i (length ds)) [
-          | yes k ↦ rw (List·getD-append ds (digit (v % 10) ∷ []) 0 i k) (r i k)
+        elim (dec_lt i (length ds)) [
+          | yes k ↦ rw (get_or-append ds (digit (v % 10) ∷ []) 0 i k) (r i k)
           | no n ↦
               let e : i ≡ length ds = omega (arith, length-append ds (digit (v % 10) ∷ [])) in
-              rw (e, getD-append-seam ds (digit (v % 10)) [] 0) (omega arith, omega arith)
+              rw (e, get_or-append_seam ds (digit (v % 10)) [] 0) (omega arith, omega arith)
         ]
 
 -- no number but 0 begins with a zero
-pub decimal-leads : (v : ℕ) → v < 2 ^ 64 → 0 < v → 48 < getD (decimal v) 0 0
-decimal-leads v s = decimal-ind (λ v ds. (0 < length ds) × (0 < v → 48 < getD ds 0 0)) (λ v h. (omega arith, λ p. omega arith)) more v s .1
+pub decimal-leads : (v : ℕ) → v < 2 ^ 64 → 0 < v → 48 < get_or (decimal v) 0 0
+decimal-leads v s = (decimal-ind (λ v ds. (0 < length ds) × (0 < v → 48 < get_or ds 0 0)) (λ v h. (omega arith, λ p. omega arith)) more v s).1
   where
-    more : (v : ℕ) (ds : List ℕ) → 10 ≤ v → (0 < length ds) × (0 < v / 10 → 48 < getD ds 0 0)
-        → (0 < length (ds ++ (digit (v % 10) ∷ []))) × (0 < v → 48 < getD (ds ++ (digit (v % 10) ∷ [])) 0 0)
+    more : (v : ℕ) (ds : List ℕ) → 10 ≤ v → (0 < length ds) × (0 < v / 10 → 48 < get_or ds 0 0)
+        → (0 < length (ds ++ (digit (v % 10) ∷ []))) × (0 < v → 48 < get_or (ds ++ (digit (v % 10) ∷ [])) 0 0)
     more v ds h r =
-        (omega (arith, r .0, length-append ds (digit (v % 10) ∷ [])), λ p. rw (List·getD-append ds (digit (v % 10) ∷ []) 0 0 (r .0)) (r .1 (omega arith)))
+        (omega (arith, r.0, length-append ds (digit (v % 10) ∷ [])), λ p. rw (get_or-append ds (digit (v % 10) ∷ []) 0 0 r.0) (r.1 (omega arith)))
 
 -- the largest 64-bit number
 pub decimal-largest : decimal 18446744073709551615 ≡ word "18446744073709551615"

@@ -1,15 +1,15 @@
 -- A line put word after word: the first, each later one with a space in front, and the newline; and how long a line of numbers can be. Assumes nothing.
-use mathlib.Core.Path.{_≡_, refl, sym, ap, _∙_}
-use mathlib.Core.List.{List, [], _∷_, _++_, map, append-assoc, append-nil}
-use Prim.Native.Nat.{ℕ, _+_, _*_, _≤_, _<_}
+use mathlib.Core.Path.{◌≡◌, refl, sym, ap, ◌∙◌}
+use mathlib.Core.List.{List, [], ◌∷◌, ◌++◌, map, append_assoc, append-nil}
+use Prim.Native.Nat.{ℕ, ◌+◌, ◌*◌, ◌≤◌, ◌<◌}
 use native.Mathlib.Numerals.{add-one}
 use native.Mathlib.Omega.{arith}
-use lib.ListN.{length, drop, getD, length-append, drop-of-length-le}
+use lib.ListN.{length, drop, get_or, length-append, drop_of_length-le}
 use lib.Seq.{drop-cons}
-use Rattle·lent.specs.Lent.{Put}
-use Rattle·text·specs.specs.Text.{word, digits, decimal, spaced, joined, line, refusalText}
-use Rattle·lent.proofs.Putting.{put-as, put-then}
-use Rattle·text·proofs.proofs.Decimal.{decimal-short}
+use Rattle.lent.specs.Lent.{Put}
+use Rattle.text.specs.Text.{word, digits, decimal, spaced, joined, line, refusalText}
+use Rattle.lent.proofs.Putting.{put-as, put-then}
+use Rattle.text.proofs.Decimal.{decimal-short}
 
 -- ---- lengths
 
@@ -45,10 +45,10 @@ refusal-short number place = head-short (word "REFUSED") (number ∷ place ∷ [
 
 pub spaced-none : (f : ℕ → List ℕ) (s : List ℕ) (i : ℕ) → length s ≤ i → spaced (map f (drop i s)) ≡ []
 unfolding spaced
-spaced-none f s i h = rw (drop-of-length-le s h)
+spaced-none f s i h = rw (drop_of_length-le s h)
 
 pub spaced-step : (f : ℕ → List ℕ) (s : List ℕ) (i : ℕ) → i < length s
-    → spaced (map f (drop i s)) ≡ (word " " ++ f (getD s i 0)) ++ spaced (map f (drop (i + 1) s))
+    → spaced (map f (drop i s)) ≡ (word " " ++ f (get_or s i 0)) ++ spaced (map f (drop (i + 1) s))
 unfolding spaced
 spaced-step f s i h = rw (drop-cons s i 0 h, add-one)
 
@@ -57,7 +57,7 @@ spaced-step f s i h = rw (drop-cons s i 0 h, add-one)
 spaced-more : (ws : List (List ℕ)) (v : List ℕ) → spaced ws ++ (word " " ++ v) ≡ spaced (ws ++ (v ∷ []))
 unfolding spaced
 spaced-more [] v = sym (append-nil (word " " ++ v))
-spaced-more (w ∷ ws) v = append-assoc (word " " ++ w) (spaced ws) (word " " ++ v) ∙ ap (λ (l : List ℕ). (word " " ++ w) ++ l) (spaced-more ws v)
+spaced-more (w ∷ ws) v = append_assoc (word " " ++ w) (spaced ws) (word " " ++ v) ∙ ap (λ (l : List ℕ). (word " " ++ w) ++ l) (spaced-more ws v)
 
 pub joined-one : (w : List ℕ) → w ≡ joined (w ∷ [])
 unfolding joined spaced
@@ -65,7 +65,7 @@ joined-one w = sym (append-nil w)
 
 pub joined-more : (w : List ℕ) (ws : List (List ℕ)) (v : List ℕ) → joined (w ∷ ws) ++ (word " " ++ v) ≡ joined (w ∷ (ws ++ (v ∷ [])))
 unfolding joined
-joined-more w ws v = append-assoc w (spaced ws) (word " " ++ v) ∙ ap (λ (l : List ℕ). w ++ l) (spaced-more ws v)
+joined-more w ws v = append_assoc w (spaced ws) (word " " ++ v) ∙ ap (λ (l : List ℕ). w ++ l) (spaced-more ws v)
 
 -- ---- the same, put
 

@@ -7,12 +7,9 @@
 --   line ws       the words with single spaces between them, and a newline (`joined-one`, `joined-more`, `line-of-three`)
 --   refusalText number place
 --                 the line of a refusal: `REFUSED`, its number and its place
-use mathlib.Core.Bool.{cond}
-use mathlib.Core.List.{List, [], _∷_, _++_}
-use Prim.Native.Nat.{ℕ, zero, suc, _+_, _/_, _%_}
+use Rattle.std.specs.Prelude.{cond, List, [], ◌∷◌, ◌++◌, ℕ, zero, suc, ◌+◌, ◌/◌, ◌%◌, ltb}
 use Prim.Native.Char.{code}
-use Prim.Native.String.{String, [] as none, _∷_ as _then_}
-use lib.Dec.{ltb}
+use Prim.Native.String.{String, [] as none, ◌∷◌ as ◌then◌}
 
 abbrev pub word : String → List ℕ
 word none = []

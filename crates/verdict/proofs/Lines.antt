@@ -1,18 +1,17 @@
 -- Tests and the lines that they go by: one test, tests in order, lines of one number, the numbers. Assumes nothing.
-use mathlib.Core.Path.{_≡_, refl, sym, ap, _∙_}
-use mathlib.Core.Logic.{_↔_, inl, inr}
-use mathlib.Core.Bool.{Bool, true, not, _&&_, and-eq-true-iff}
-use mathlib.Core.List.{List, [], _∷_, List·Memᴰ}
-use mathlib.Core.List.List·Memᴰ.{List·Memᴰ·head, List·Memᴰ·tail}
+use mathlib.Core.Path.{◌≡◌, refl, sym, ap, ◌∙◌}
+use mathlib.Core.Logic.{◌↔◌, inl, inr}
+use mathlib.Core.Bool.{Bool, true, not, ◌&&◌, and-eq-true_iff}
+use mathlib.Core.List.{List, [], ◌∷◌, Memᴰ}
 use Prim.Native.Nat.{ℕ}
 use lib.Dec.{eqb}
 use borrow.Author.Tests.{eqb-false, not-true}
-use Rattle·verdict·specs.specs.declared.Verdict.{Verdict}
-use Rattle·verdict·specs.specs.declared.Verdict.the-variants.{Fine, Against}
-use Rattle·verdict·specs.specs.Tests.{inOrder, Among}
-use Rattle·verdict·specs.specs.Lines.{Lines, NoneApplies, Applies, GoesBy}
-use Rattle·verdict·specs.specs.Lines.Lines.{none, line}
-use Rattle·verdict·proofs.proofs.Ordered.{apart, order-both, order-stop, order-next}
+use Rattle.verdict.specs.declared.Verdict.{Verdict}
+use Rattle.verdict.specs.declared.Verdict.TheVariants.{Fine, Against}
+use Rattle.verdict.specs.Tests.{inOrder, Among}
+use Rattle.verdict.specs.Lines.{Lines, NoneApplies, Applies, GoesBy}
+use Rattle.verdict.specs.Lines.Lines.{none, line}
+use Rattle.verdict.proofs.Ordered.{apart, order-both, order-stop, order-next}
 
 -- ---- the first line that applies is one
 
@@ -37,12 +36,13 @@ goes-by lines (Against u) f g =
 
 -- ---- one test
 
-only : {w u : ℕ} → List·Memᴰ u (w ∷ []) → u ≡ w
-only (List·Memᴰ·head e) = e
+only : {w u : ℕ} → Memᴰ u (w ∷ []) → u ≡ w
+only (Memᴰ.head e) = e
+only (Memᴰ.tail m) = elim m [ ]
 
 -- a test that refuses by one number, and has nothing against it exactly where A holds
 pub one-line : {v : Verdict} {w : ℕ} {A : Type 0} → Among (w ∷ []) v → (v ≡ Fine) ↔ A → GoesBy (line w A none) v
-one-line {v} {w} {A} among fine = goes-by _ v (λ e. (fine .0 e, tt)) (λ u e. inl (λ a. apart (fine .1 a) e, only (among .among u e)))
+one-line {v} {w} {A} among fine = goes-by _ v (λ e. (fine.0 e, tt)) (λ u e. inl (λ a. apart (fine.1 a) e, only (among.among u e)))
 
 -- ---- tests in order
 
@@ -72,27 +72,27 @@ no-lines = goes-by none Fine (λ e. tt) (λ w e. apart refl e)
 pub lines-then : {lines more : Lines} {v : Verdict} (tests : List Verdict) → GoesBy lines v → GoesBy more (inOrder tests)
     → GoesBy (joined lines more) (inOrder (v ∷ tests))
 lines-then {lines} {more} {v} tests g h =
-    goes-by _ _ (λ e. let (p, q) = order-both v tests .0 e in none-joined lines more (g .fine .0 p) (h .fine .0 q)) (λ w e. against v g w e)
+    goes-by _ _ (λ e. let (p, q) = (order-both v tests).0 e in none-joined lines more (g.fine.0 p) (h.fine.0 q)) (λ w e. against v g w e)
   where
     against : (v : Verdict) → GoesBy lines v → (w : ℕ) → inOrder (v ∷ tests) ≡ Against w → Applies (joined lines more) w
-    against Fine g w e = later-applies lines more w (g .fine .0 refl) (h .against w .0 (sym (order-next Fine tests refl) ∙ e))
-    against (Against u) g w e = front-applies lines more w (g .against w .0 (sym (order-stop (Against u) tests refl) ∙ e))
+    against Fine g w e = later-applies lines more w (g.fine.0 refl) ((h.against w).0 (sym (order-next Fine tests refl) ∙ e))
+    against (Against u) g w e = front-applies lines more w ((g.against w).0 (sym (order-stop (Against u) tests refl) ∙ e))
 
 -- ---- lines of one number
 
 -- two lines of one number after one another are one line of it
 pub same-number : {v : Verdict} {A B C : Type 0} (front : Lines) (w : ℕ) (rest : Lines) → (A × B) ↔ C
     → GoesBy (joined front (line w A (line w B rest))) v → GoesBy (joined front (line w C rest)) v
-same-number {v} {A} {B} {C} front w rest c g = goes-by _ _ (λ e. holds front (g .fine .0 e)) (λ u e. applies front u (g .against u .0 e))
+same-number {v} {A} {B} {C} front w rest c g = goes-by _ _ (λ e. holds front (g.fine.0 e)) (λ u e. applies front u ((g.against u).0 e))
   where
     holds : (front : Lines) → NoneApplies (joined front (line w A (line w B rest))) → NoneApplies (joined front (line w C rest))
-    holds none (a, (b, p)) = (c .0 (a, b), p)
+    holds none (a, (b, p)) = (c.0 (a, b), p)
     holds (line x D more) (d, p) = (d, holds more p)
 
     applies : (front : Lines) (u : ℕ) → Applies (joined front (line w A (line w B rest))) u → Applies (joined front (line w C rest)) u
-    applies none u (inl (f, e)) = inl (λ p. f (c .1 p .0), e)
-    applies none u (inr (a, inl (f, e))) = inl (λ p. f (c .1 p .1), e)
-    applies none u (inr (a, inr (b, p))) = inr (c .0 (a, b), p)
+    applies none u (inl (f, e)) = inl (λ p. f (c.1 p).0, e)
+    applies none u (inr (a, inl (f, e))) = inl (λ p. f (c.1 p).1, e)
+    applies none u (inr (a, inr (b, p))) = inr (c.0 (a, b), p)
     applies (line x D more) u (inl p) = inl p
     applies (line x D more) u (inr (d, p)) = inr (d, applies more u p)
 
@@ -102,14 +102,14 @@ abbrev pub numbersOf : Lines → List ℕ
 numbersOf none = []
 numbersOf (line w A rest) = w ∷ numbersOf rest
 
-applies-among : (lines : Lines) (w : ℕ) → Applies lines w → List·Memᴰ w (numbersOf lines)
+applies-among : (lines : Lines) (w : ℕ) → Applies lines w → Memᴰ w (numbersOf lines)
 applies-among none w p = absurd p
-applies-among (line u A rest) w (inl (f, e)) = List·Memᴰ·head e
-applies-among (line u A rest) w (inr (a, p)) = List·Memᴰ·tail (applies-among rest w p)
+applies-among (line u A rest) w (inl (f, e)) = Memᴰ.head e
+applies-among (line u A rest) w (inr (a, p)) = Memᴰ.tail (applies-among rest w p)
 
 -- what goes by the lines refuses only by their numbers
 pub lines-among : {lines : Lines} {v : Verdict} → GoesBy lines v → Among (numbersOf lines) v
-lines-among {lines} g = record { among = λ w e. applies-among lines w (g .against w .0 e) }
+lines-among {lines} g = record { among = λ w e. applies-among lines w ((g.against w).0 e) }
 
 -- the number is none of these
 abbrev pub lacks : ℕ → List ℕ → Bool
@@ -117,19 +117,20 @@ lacks w [] = true
 lacks w (x ∷ xs) = not (eqb w x) && lacks w xs
 
 not-first : (w x : ℕ) (xs : List ℕ) → lacks w (x ∷ xs) ≡ true → w ≡ x → ⊥
-not-first w x xs e = eqb-false w x (not-true _ (and-eq-true-iff (not (eqb w x)) (lacks w xs) .0 e .0))
+not-first w x xs e = eqb-false w x (not-true _ ((and-eq-true_iff (not (eqb w x)) (lacks w xs)).0 e).0)
 
 not-later : (w x : ℕ) (xs : List ℕ) → lacks w (x ∷ xs) ≡ true → lacks w xs ≡ true
-not-later w x xs e = and-eq-true-iff (not (eqb w x)) (lacks w xs) .0 e .1
+not-later w x xs e = ((and-eq-true_iff (not (eqb w x)) (lacks w xs)).0 e).1
 
-lacking : (w : ℕ) (xs : List ℕ) → lacks w xs ≡ true → List·Memᴰ w xs → ⊥
-lacking w (x ∷ xs) e (List·Memᴰ·head d) = not-first w x xs e d
-lacking w (x ∷ xs) e (List·Memᴰ·tail m) = lacking w xs (not-later w x xs e) m
+lacking : (w : ℕ) (xs : List ℕ) → lacks w xs ≡ true → Memᴰ w xs → ⊥
+lacking w [] e m = elim m [ ]
+lacking w (x ∷ xs) e (Memᴰ.head d) = not-first w x xs e d
+lacking w (x ∷ xs) e (Memᴰ.tail m) = lacking w xs (not-later w x xs e) m
 
 -- a line that alone has its number is the first that applies exactly where no line before it applies and it does
 pub applies-exactly : {A : Type 0} (front : Lines) (w : ℕ) (rest : Lines) → lacks w (numbersOf front) ≡ true → lacks w (numbersOf rest) ≡ true
     → Applies (joined front (line w A rest)) w ↔ (NoneApplies front × (A → ⊥))
-applies-exactly {A} front w rest before after = (to front before, λ p. later-applies front (line w A rest) w (p .0) (inl (p .1, refl)))
+applies-exactly {A} front w rest before after = (to front before, λ p. later-applies front (line w A rest) w p.0 (inl (p.1, refl)))
   where
     to : (front : Lines) → lacks w (numbersOf front) ≡ true → Applies (joined front (line w A rest)) w → NoneApplies front × (A → ⊥)
     to none e (inl (f, d)) = (tt, f)

@@ -1,19 +1,19 @@
 -- The laws of tests made in order. Assumes nothing.
-use mathlib.Core.Path.{_≡_, refl, sym}
-use mathlib.Core.Logic.{_↔_}
+use mathlib.Core.Path.{◌≡◌, refl, sym}
+use mathlib.Core.Logic.{◌↔◌}
 use mathlib.Core.Bool.{Bool, true, false}
-use mathlib.Core.List.{List, [], _∷_}
+use mathlib.Core.List.{List, [], ◌∷◌}
 use Prim.Native.Nat.{ℕ}
 use native.Mathlib.Omega.{arith}
-use Rattle·verdict·specs.specs.declared.Verdict.{Verdict}
-use Rattle·verdict·specs.specs.declared.Verdict.the-variants.{Fine, Against}
-use Rattle·verdict·specs.specs.Tests.{need, inOrder}
+use Rattle.verdict.specs.declared.Verdict.{Verdict}
+use Rattle.verdict.specs.declared.Verdict.TheVariants.{Fine, Against}
+use Rattle.verdict.specs.Tests.{need, inOrder}
 
 -- ---- one verdict
 
 -- nothing is against what a test holds of: a verdict is not both
 pub apart : {A : Type 0} {v : Verdict} {w : ℕ} → v ≡ Fine → v ≡ Against w → A
-apart p q = absurd (let z : _≡_ {A = ℕ} 0 1 = cc in omega arith)
+apart p q = absurd (let z : ◌≡◌ {A = ℕ} 0 1 = cc in omega arith)
 
 -- one verdict refuses by one number
 pub one-number : {v : Verdict} {w u : ℕ} → v ≡ Against w → v ≡ Against u → w ≡ u
@@ -51,13 +51,13 @@ AllFine (v ∷ tests) = (v ≡ Fine) × AllFine tests
 pub order-fine : (tests : List Verdict) → (inOrder tests ≡ Fine) ↔ AllFine tests
 unfolding inOrder
 order-fine [] = (λ e. tt, λ u. refl)
-order-fine (Fine ∷ tests) = (λ e. (refl, order-fine tests .0 e), λ (p, q). order-fine tests .1 q)
-order-fine (Against w ∷ tests) = (λ e. let z : _≡_ {A = ℕ} 0 1 = cc in absurd (omega arith), λ (p, q). p)
+order-fine (Fine ∷ tests) = (λ e. (refl, (order-fine tests).0 e), λ (p, q). (order-fine tests).1 q)
+order-fine (Against w ∷ tests) = (λ e. let z : ◌≡◌ {A = ℕ} 0 1 = cc in absurd (omega arith), λ (p, q). p)
 
 -- nothing is against two parts exactly where nothing is against either
 pub order-both : (v : Verdict) (tests : List Verdict) → (inOrder (v ∷ tests) ≡ Fine) ↔ ((v ≡ Fine) × (inOrder tests ≡ Fine))
 unfolding inOrder
-order-both v tests = (λ e. let (p, q) = order-fine (v ∷ tests) .0 e in (p, order-fine tests .1 q), λ (p, q). order-fine (v ∷ tests) .1 (p, order-fine tests .0 q))
+order-both v tests = (λ e. let (p, q) = (order-fine (v ∷ tests)).0 e in (p, (order-fine tests).1 q), λ (p, q). (order-fine (v ∷ tests)).1 (p, (order-fine tests).0 q))
 
 -- a test that fails decides
 pub order-stop : (v : Verdict) (tests : List Verdict) {w : ℕ} → v ≡ Against w → inOrder (v ∷ tests) ≡ v

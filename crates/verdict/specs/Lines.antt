@@ -3,11 +3,9 @@
 --   NoneApplies lines   no line applies
 --   Applies lines w     w is the number of the first line that applies (`one-applies`, `applies-exactly`)
 --   GoesBy lines v      the verdict refuses exactly where a line applies, and by the number of the first
-use mathlib.Core.Path.{_≡_}
-use mathlib.Core.Logic.{_↔_, _⊎_}
-use Prim.Native.Nat.{ℕ}
-use Rattle·verdict·specs.specs.declared.Verdict.{Verdict}
-use Rattle·verdict·specs.specs.declared.Verdict.the-variants.{Fine, Against}
+use Rattle.std.specs.Prelude.{◌≡◌, ◌↔◌, ◌⊎◌, ℕ}
+use Rattle.verdict.specs.declared.Verdict.{Verdict}
+use Rattle.verdict.specs.declared.Verdict.TheVariants.{Fine, Against}
 
 pub data Lines : Type 1 where
   none : Lines

@@ -1,10 +1,8 @@
 -- What a test says, and tests made in order. Refusals are by the numbers of the scope (§7).
-use mathlib.Core.Path.{_≡_}
-use mathlib.Core.Bool.{Bool, true, false}
-use mathlib.Core.List.{List, [], _∷_, map, List·Memᴰ}
-use Prim.Native.Nat.{ℕ}
-use Rattle·verdict·specs.specs.declared.Verdict.{Verdict}
-use Rattle·verdict·specs.specs.declared.Verdict.the-variants.{Fine, Against}
+use Rattle.std.specs.Prelude.{◌≡◌, Bool, true, false, ℕ}
+use mathlib.Core.List.{List, [], ◌∷◌, map, Memᴰ}
+use Rattle.verdict.specs.declared.Verdict.{Verdict}
+use Rattle.verdict.specs.declared.Verdict.TheVariants.{Fine, Against}
 
 -- a test that holds has nothing against it; one that fails is refused by its number
 unfoldable pub need : Bool → ℕ → Verdict
@@ -23,7 +21,7 @@ each test values = inOrder (map test values)
 
 -- the verdict refuses only by these numbers
 pub record Among (numbers : List ℕ) (v : Verdict) : Type 0 where
-  pub among : (w : ℕ) → v ≡ Against w → List·Memᴰ w numbers
+  pub among : (w : ℕ) → v ≡ Against w → Memᴰ w numbers
 
 -- the flag says whether A holds
 pub record Decides (A : Type 0) (flag : Bool) : Type 0 where

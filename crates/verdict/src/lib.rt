@@ -1,7 +1,10 @@
 // What a test says of what it is shown: nothing against it, or a refusal by the scope's number (§7).
-ghost use mathlib.Core.Path.{_≡_};
-ghost use Rattle·verdict·specs.specs.Tests;
+#![tactic(auto)]
 
+ghost use Rattle.std.specs.Prelude.{◌≡◌};
+ghost use Rattle.verdict.specs.Tests;
+
+#[derive(Drop)]
 pub enum Verdict {
     Fine,
     Against(u8),
@@ -9,7 +12,7 @@ pub enum Verdict {
 
 // A test that holds has nothing against it; one that fails is refused by its number.
 pub fn need(holds: bool, number: u8) -> Verdict
-    ensures { λ r. ⌜ r ≡ Tests.need holds number ⌝ }
+    ensures { result ≡ Tests.need holds number }
 {
     if holds {
         return Verdict::Fine;

@@ -1,14 +1,13 @@
 -- The laws of columns: what stands in the column of a field, what is equal field by field, how long the columns are, and growing by one at the
 -- end. Assumes nothing.
-use mathlib.Core.Path.{_≡_, refl, ap, _∙_}
-use mathlib.Core.List.{List, [], _∷_, _++_, map, map-append, List·Memᴰ}
-use mathlib.Core.List.List·Memᴰ.{List·Memᴰ·head, List·Memᴰ·tail}
-use Prim.Native.Nat.{ℕ, _≤_, _<_}
+use mathlib.Core.Path.{◌≡◌, refl, ap, ◌∙◌}
+use mathlib.Core.List.{List, [], ◌∷◌, ◌++◌, map, map-append, Memᴰ}
+use Prim.Native.Nat.{ℕ, ◌≤◌, ◌<◌}
 use native.Mathlib.Omega.{arith}
-use lib.ListN.{length, getD, length-map, List·getD-append}
-use lib.Seq.{getD-at}
-use Rattle·walk·specs.specs.Walk.{Record}
-use Rattle·walk·specs.specs.Columns.{Field, value, recordBy, Columns, column, columnsBy, eachColumn, lengths, Fit}
+use lib.ListN.{length, get_or, length-map, get_or-append}
+use lib.Seq.{get_or_at}
+use Rattle.walk.specs.Walk.{Record}
+use Rattle.walk.specs.Columns.{Field, value, recordBy, Columns, column, columnsBy, eachColumn, lengths, Fit}
 
 -- ---- by its fields
 
@@ -36,10 +35,10 @@ columns-path f g h i = columnsBy (λ (x : Field). h x i)
 -- ---- how long the columns are
 
 pub fit-at : {room : ℕ} {c : Columns} → Fit room c → (x : Field) → room ≤ length (column x c)
-fit-at fit Field.left = fit .lefts
-fit-at fit Field.right = fit .rights
-fit-at fit Field.parent = fit .parents
-fit-at fit Field.letter = fit .taken
+fit-at fit Field.left = fit.lefts
+fit-at fit Field.right = fit.rights
+fit-at fit Field.parent = fit.parents
+fit-at fit Field.letter = fit.taken
 
 pub fit-by : {room : ℕ} {c : Columns} → ((x : Field) → room ≤ length (column x c)) → Fit room c
 fit-by f = record { lefts = f Field.left; rights = f Field.right; parents = f Field.parent; taken = f Field.letter }
@@ -47,17 +46,18 @@ fit-by f = record { lefts = f Field.left; rights = f Field.right; parents = f Fi
 pub fit-less : {room n : ℕ} {c : Columns} → n ≤ room → Fit room c → Fit n c
 fit-less h fit = fit-by (λ x. omega (arith, fit-at fit x))
 
-pub in-lengths : (c : Columns) (x : Field) → List·Memᴰ (length (column x c)) (lengths c)
-in-lengths c Field.left = List·Memᴰ·head refl
-in-lengths c Field.right = List·Memᴰ·tail (List·Memᴰ·head refl)
-in-lengths c Field.parent = List·Memᴰ·tail (List·Memᴰ·tail (List·Memᴰ·head refl))
-in-lengths c Field.letter = List·Memᴰ·tail (List·Memᴰ·tail (List·Memᴰ·tail (List·Memᴰ·head refl)))
+pub in-lengths : (c : Columns) (x : Field) → Memᴰ (length (column x c)) (lengths c)
+in-lengths c Field.left = Memᴰ.head refl
+in-lengths c Field.right = Memᴰ.tail (Memᴰ.head refl)
+in-lengths c Field.parent = Memᴰ.tail (Memᴰ.tail (Memᴰ.head refl))
+in-lengths c Field.letter = Memᴰ.tail (Memᴰ.tail (Memᴰ.tail (Memᴰ.head refl)))
 
-pub of-lengths : (c : Columns) {n : ℕ} → List·Memᴰ n (lengths c) → (x : Field) × (n ≡ length (column x c))
-of-lengths c (List·Memᴰ·head e) = (Field.left, e)
-of-lengths c (List·Memᴰ·tail (List·Memᴰ·head e)) = (Field.right, e)
-of-lengths c (List·Memᴰ·tail (List·Memᴰ·tail (List·Memᴰ·head e))) = (Field.parent, e)
-of-lengths c (List·Memᴰ·tail (List·Memᴰ·tail (List·Memᴰ·tail (List·Memᴰ·head e)))) = (Field.letter, e)
+pub of-lengths : (c : Columns) {n : ℕ} → Memᴰ n (lengths c) → (x : Field) × (n ≡ length (column x c))
+of-lengths c (Memᴰ.head e) = (Field.left, e)
+of-lengths c (Memᴰ.tail (Memᴰ.head e)) = (Field.right, e)
+of-lengths c (Memᴰ.tail (Memᴰ.tail (Memᴰ.head e))) = (Field.parent, e)
+of-lengths c (Memᴰ.tail (Memᴰ.tail (Memᴰ.tail (Memᴰ.head e)))) = (Field.letter, e)
+of-lengths c (Memᴰ.tail (Memᴰ.tail (Memᴰ.tail (Memᴰ.tail m)))) = elim m [ ]
 
 -- ---- one record more
 
@@ -65,8 +65,8 @@ module _ (f : Record → ℕ) (kept : List Record) (r : Record) where
   pub column-snoc : map f (kept ++ (r ∷ [])) ≡ map f kept ++ (f r ∷ [])
   column-snoc = map-append f kept (r ∷ [])
 
-  pub column-old : (i : ℕ) → i < length kept → getD (map f (kept ++ (r ∷ []))) i 0 ≡ getD (map f kept) i 0
-  column-old i l = ap (λ (xs : List ℕ). getD xs i 0) column-snoc ∙ List·getD-append (map f kept) (f r ∷ []) 0 i (rw (length-map kept f) l)
+  pub column-old : (i : ℕ) → i < length kept → get_or (map f (kept ++ (r ∷ []))) i 0 ≡ get_or (map f kept) i 0
+  column-old i l = ap (λ (xs : List ℕ). get_or xs i 0) column-snoc ∙ get_or-append (map f kept) (f r ∷ []) 0 i (rw (length-map kept f) l)
 
-  pub column-new : getD (map f (kept ++ (r ∷ []))) (length kept) 0 ≡ f r
-  column-new = ap (λ (xs : List ℕ). getD xs (length kept) 0) column-snoc ∙ getD-at (map f kept) (f r) [] 0 (length kept) (length-map kept f)
+  pub column-new : get_or (map f (kept ++ (r ∷ []))) (length kept) 0 ≡ f r
+  column-new = ap (λ (xs : List ℕ). get_or xs (length kept) 0) column-snoc ∙ get_or_at (map f kept) (f r) [] 0 (length kept) (length-map kept f)

@@ -1,31 +1,31 @@
 -- `full-exactly`: FULL exactly when the walk has to keep one more pair than the room allows. Assumes nothing.
-use mathlib.Core.Path.{_≡_}
-use mathlib.Core.Logic.{_↔_}
+use mathlib.Core.Path.{◌≡◌}
+use mathlib.Core.Logic.{◌↔◌}
 use mathlib.Core.List.{List}
-use Prim.Native.Nat.{ℕ, _+_, _≤_, _<_}
-use native.Mathlib.Decide.{decLt}
+use Prim.Native.Nat.{ℕ, ◌+◌, ◌≤◌, ◌<◌}
+use native.Mathlib.Decide.{dec_lt}
 use native.Mathlib.Omega.{arith}
 use lib.ListN.{length}
-use Rattle·pattern.specs.Pattern.{Sized}
-use Rattle·walk·specs.specs.Walk.{Question, Record, Outcome, keptOf, Walk}
-use Rattle·walk·specs.specs.Walk.Outcome.{Full}
-use Rattle·walk·specs.specs.Meaning.{Proper, Outgrows}
-use Rattle·walk·proofs.proofs.Counts.{counts}
-use Rattle·walk·proofs.proofs.WalkUnique.{walk-unique}
-use Rattle·walk·proofs.proofs.WalkEnds.{walk-ends}
-use Rattle·walk·proofs.proofs.LessRoom.{room-suffices, less-room}
+use Rattle.pattern.specs.Pattern.{Sized}
+use Rattle.walk.specs.Walk.{Question, Record, Outcome, keptOf, Walk}
+use Rattle.walk.specs.Walk.Outcome.{Full}
+use Rattle.walk.specs.Meaning.{Proper, Outgrows}
+use Rattle.walk.proofs.Counts.{counts}
+use Rattle.walk.proofs.WalkUnique.{walk-unique}
+use Rattle.walk.proofs.WalkEnds.{walk-ends}
+use Rattle.walk.proofs.LessRoom.{room-suffices, less-room}
 
 -- where a room is FULL, every larger one keeps more than it allows
-pub full-keeps-more : {Q : Question} {room more : ℕ} {kept : List Record} {e : ℕ} {o : Outcome} → Sized (Q .pattern .states) (Q .pattern .letters)
+pub full-keeps-more : {Q : Question} {room more : ℕ} {kept : List Record} {e : ℕ} {o : Outcome} → Sized Q.pattern.states Q.pattern.letters
     → room < more → Walk Q room (Full kept e) → Walk Q more o → room < length (keptOf o)
-full-keeps-more {Q} {room} {more} {kept} {e} {o} sized larger v w = pick (decLt room (length (keptOf o)))
+full-keeps-more {Q} {room} {more} {kept} {e} {o} sized larger v w = pick (dec_lt room (length (keptOf o)))
   where
     -- else both are FULL with the same records, which are too few for the larger
     same : length (keptOf o) ≤ room → Full kept e ≡ o
     same h = walk-unique v (room-suffices room (omega arith) h w)
 
     few : length (keptOf o) ≤ room → ⊥
-    few h = let w′ : Walk Q more (Full kept e) = rw (same h) w in omega (arith, counts sized v .by-answer, counts sized w′ .by-answer)
+    few h = let w' : Walk Q more (Full kept e) = rw (same h) w in omega (arith, (counts sized v).by-answer, (counts sized w').by-answer)
 
     pick : Dec (room < length (keptOf o)) → room < length (keptOf o)
     pick (yes l) = l
@@ -34,8 +34,8 @@ full-keeps-more {Q} {room} {more} {kept} {e} {o} sized larger v w = pick (decLt 
 pub full-exactly : {Q : Question} → Proper Q → (room : ℕ) → ((kept : List Record) × (e : ℕ) × Walk Q room (Full kept e)) ↔ Outgrows Q room
 full-exactly {Q} p room = (to, fro)
   where
-    sized : Sized (Q .pattern .states) (Q .pattern .letters)
-    sized = p .valid .sized
+    sized : Sized Q.pattern.states Q.pattern.letters
+    sized = p.valid.sized
 
     to : (kept : List Record) × (e : ℕ) × Walk Q room (Full kept e) → Outgrows Q room
     to (kept, e, v) =
@@ -43,9 +43,9 @@ full-exactly {Q} p room = (to, fro)
         record { outcome = o; walk = w; more = full-keeps-more sized (omega arith) v w }
 
     fro : Outgrows Q room → (kept : List Record) × (e : ℕ) × Walk Q room (Full kept e)
-    fro g = (_, _, less-room sized room (g .more) (g .walk))
+    fro g = (_, _, less-room sized room g.more g.walk)
 
 -- and then so does the walk in every larger room
-pub outgrows-every : {Q : Question} {room more : ℕ} {o : Outcome} → Sized (Q .pattern .states) (Q .pattern .letters) → room < more
+pub outgrows-every : {Q : Question} {room more : ℕ} {o : Outcome} → Sized Q.pattern.states Q.pattern.letters → room < more
     → Outgrows Q room → Walk Q more o → room < length (keptOf o)
-outgrows-every {room = room} sized larger g w = full-keeps-more sized larger (less-room sized room (g .more) (g .walk)) w
+outgrows-every {room = room} sized larger g w = full-keeps-more sized larger (less-room sized room g.more g.walk) w

@@ -1,55 +1,55 @@
 -- The word of a candidate leads from the two starts to its two sets, and every candidate has one. Assumes nothing.
-use mathlib.Core.Path.{_≡_, refl, ap, _∙_}
-use mathlib.Core.List.{List, [], _∷_, _++_}
-use Prim.Native.Nat.{ℕ, zero, suc, _+_, _*_, _/_, _%_, _≤_, _<_}
-use native.Mathlib.Nat.{mod-lt, div-eq-of-lt, mod-eq-of-lt, mul-add-div-right, mul-add-mod-self-right, add-zero}
+use mathlib.Core.Path.{◌≡◌, refl, ap, ◌∙◌}
+use mathlib.Core.List.{List, [], ◌∷◌, ◌++◌}
+use Prim.Native.Nat.{ℕ, zero, suc, ◌+◌, ◌*◌, ◌/◌, ◌%◌, ◌≤◌, ◌<◌}
+use native.Mathlib.Nat.{mod-lt, div-eq_of_lt, mod-eq_of_lt, mul-add-div_right, mul-add-mod_self_right, add-zero}
 use native.Mathlib.Omega.{arith}
-use lib.ListN.{length, getD, length-append}
-use Rattle·pattern.specs.Language.{next, reach, Over}
-use Rattle·pattern.specs.Language.Over.{empty}
-use Rattle·pattern.proofs.Words.{reach-snoc, over-snoc}
-use Rattle·walk·specs.specs.Walk.{Question, Record, leftsOf, rightsOf, parentsOf, lettersOf, candidate, candidates, Path, Word}
-use Rattle·walk·specs.specs.Walk.Word.{first, later}
-use Rattle·walk·proofs.proofs.Paths.{path-unique}
-use Rattle·walk·proofs.proofs.Sound.{Reached, from-below}
+use lib.ListN.{length, get_or, length-append}
+use Rattle.pattern.specs.Language.{next, reach, Over}
+use Rattle.pattern.specs.Language.Over.{empty}
+use Rattle.pattern.proofs.Words.{reach-snoc, over-snoc}
+use Rattle.walk.specs.Walk.{Question, Record, leftsOf, rightsOf, parentsOf, lettersOf, candidate, candidates, Path, Word}
+use Rattle.walk.specs.Walk.Word.{first, later}
+use Rattle.walk.proofs.Paths.{path-unique}
+use Rattle.walk.proofs.Sound.{Reached, from-below}
 
 -- candidate 1 + (i * k + a) is the pair of successors of record i by letter a
-pub candidate-at : (Q : Question) (kept : List Record) (i a : ℕ) → a < Q .pattern .letters
-    → candidate Q kept (suc (i * Q .pattern .letters + a))
-    ≡ record { left = next (Q .pattern) (getD (leftsOf kept) i 0) a; right = next (Q .pattern) (getD (rightsOf kept) i 0) a; parent = i; letter = a }
+pub candidate-at : (Q : Question) (kept : List Record) (i a : ℕ) → a < Q.pattern.letters
+    → candidate Q kept (suc (i * Q.pattern.letters + a))
+    ≡ record { left = next Q.pattern (get_or (leftsOf kept) i 0) a; right = next Q.pattern (get_or (rightsOf kept) i 0) a; parent = i; letter = a }
 unfolding candidate
 candidate-at Q kept i a h =
-    let k = Q .pattern .letters in
+    let k = Q.pattern.letters in
     let pos : 0 < k = omega arith in
-    let d : (i * k + a) / k ≡ i = mul-add-div-right pos i a ∙ ap (λ (x : ℕ). i + x) (div-eq-of-lt h) ∙ add-zero i in
-    let m : (i * k + a) % k ≡ a = mul-add-mod-self-right i k a ∙ mod-eq-of-lt h in
+    let d : (i * k + a) / k ≡ i = mul-add-div_right pos i a ∙ ap (λ (x : ℕ). i + x) (div-eq_of_lt h) ∙ add-zero i in
+    let m : (i * k + a) % k ≡ a = mul-add-mod_self_right i k a ∙ mod-eq_of_lt h in
     rw (d, m)
 
 pub record Leads (Q : Question) (kept : List Record) (e : ℕ) (w : List ℕ) : Type 0 where
-  pub letters : Over (Q .pattern .letters) w
+  pub letters : Over Q.pattern.letters w
   pub short : length w ≤ length kept
-  pub left : reach (Q .pattern) (Q .left) w ≡ candidate Q kept e .left
-  pub right : reach (Q .pattern) (Q .right) w ≡ candidate Q kept e .right
+  pub left : reach Q.pattern Q.left w ≡ (candidate Q kept e).left
+  pub right : reach Q.pattern Q.right w ≡ (candidate Q kept e).right
 
-module _ (Q : Question) (pos : 0 < Q .pattern .letters) (kept : List Record) (all : (i : ℕ) → i < length kept → Reached Q kept i) where
+module _ (Q : Question) (pos : 0 < Q.pattern.letters) (kept : List Record) (all : (i : ℕ) → i < length kept → Reached Q kept i) where
   leads-first : Leads Q kept 0 []
   unfolding candidate reach
   leads-first = record { letters = empty; short = omega arith; left = refl; right = refl }
 
-  leads-later : (e : ℕ) → suc e < candidates Q kept → (w : List ℕ) → Path (parentsOf kept) (lettersOf kept) (e / Q .pattern .letters) w
-      → Leads Q kept (suc e) (w ++ (e % Q .pattern .letters ∷ []))
+  leads-later : (e : ℕ) → suc e < candidates Q kept → (w : List ℕ) → Path (parentsOf kept) (lettersOf kept) (e / Q.pattern.letters) w
+      → Leads Q kept (suc e) (w ++ (e % Q.pattern.letters ∷ []))
   unfolding candidate
   leads-later e l w p =
-      let k = Q .pattern .letters in
-      let P = Q .pattern in
+      let k = Q.pattern.letters in
+      let P = Q.pattern in
       let b = from-below Q pos kept e l in
       let R = all (e / k) b in
-      let z : R .word ≡ w = path-unique (R .path) p in
+      let z : R.word ≡ w = path-unique R.path p in
       rw (← z) (record {
-        letters = over-snoc (R .over) (mod-lt e pos);
-        short = simp length-append (omega (arith, R .short));
-        left = reach-snoc P (Q .left) (R .word) (e % k) ∙ ap (λ (s : ℕ). next P s (e % k)) (R .left);
-        right = reach-snoc P (Q .right) (R .word) (e % k) ∙ ap (λ (s : ℕ). next P s (e % k)) (R .right);
+        letters = over-snoc R.over (mod-lt e pos);
+        short = simp length-append (omega (arith, R.short));
+        left = reach-snoc P Q.left R.word (e % k) ∙ ap (λ (s : ℕ). next P s (e % k)) R.left;
+        right = reach-snoc P Q.right R.word (e % k) ∙ ap (λ (s : ℕ). next P s (e % k)) R.right;
       })
 
   pub leads : {e : ℕ} {w : List ℕ} → e < candidates Q kept → Word Q kept e w → Leads Q kept e w
@@ -59,5 +59,5 @@ module _ (Q : Question) (pos : 0 < Q .pattern .letters) (kept : List Record) (al
   pub has-word : (e : ℕ) → e < candidates Q kept → (w : List ℕ) × Word Q kept e w
   has-word zero l = ([], first)
   has-word (suc e) l =
-      let R = all (e / Q .pattern .letters) (from-below Q pos kept e l) in
-      (R .word ++ (e % Q .pattern .letters ∷ []), later (R .path))
+      let R = all (e / Q.pattern.letters) (from-below Q pos kept e l) in
+      (R.word ++ (e % Q.pattern.letters ∷ []), later R.path)

@@ -1,11 +1,11 @@
 -- `more-room`: SAME and DIFFERENT in one room are the same outcome in every larger room. Assumes nothing.
-use Prim.Native.Nat.{ℕ, _≤_}
+use Prim.Native.Nat.{ℕ, ◌≤◌}
 use native.Mathlib.Omega.{arith}
-use Rattle·walk·specs.specs.Walk.{Question, Position, Moves, Outcome, Ends, Moved, Walk}
-use Rattle·walk·specs.specs.Walk.Moves.{skipped}
-use Rattle·walk·specs.specs.Walk.Ends.{same, different, full}
-use Rattle·walk·specs.specs.Walk.Moved.{stay, go}
-use Rattle·walk·specs.specs.Meaning.{Settled}
+use Rattle.walk.specs.Walk.{Question, Position, Moves, Outcome, Ends, Moved, Walk}
+use Rattle.walk.specs.Walk.Moves.{skipped}
+use Rattle.walk.specs.Walk.Ends.{same, different, full}
+use Rattle.walk.specs.Walk.Moved.{stay, go}
+use Rattle.walk.specs.Meaning.{Settled}
 
 module _ {Q : Question} {room : ℕ} (more : ℕ) (le : room ≤ more) where
   roomier-move : {p q : Position} → Moves Q room p q → Moves Q more p q
@@ -22,4 +22,4 @@ module _ {Q : Question} {room : ℕ} (more : ℕ) (le : room ≤ more) where
   roomier-end s (full l f a h) = absurd s
 
   pub more-room : {o : Outcome} → Settled o → Walk Q room o → Walk Q more o
-  more-room s w = record { last = w .last; moved = roomier-moved (w .moved); ends = roomier-end s (w .ends) }
+  more-room s w = record { last = w.last; moved = roomier-moved w.moved; ends = roomier-end s w.ends }

@@ -1,51 +1,50 @@
 -- `room-enough`: fewer records are kept than sets are reached from either start, so one room less than those is never full.
 -- Each record kept merges two labels of the sets. Assumes nothing.
-use mathlib.Core.Path.{_≡_, refl, sym, ap, _∙_}
-use mathlib.Core.List.{List, [], _∷_, _++_, List·Memᴰ}
-use mathlib.Core.List.List·Memᴰ.{List·Memᴰ·head, List·Memᴰ·tail}
-use Prim.Native.Nat.{ℕ, suc, _+_, _≤_, _<_}
-use native.Mathlib.Decide.{ℕ-discrete}
+use mathlib.Core.Path.{◌≡◌, refl, sym, ap, ◌∙◌}
+use mathlib.Core.List.{List, [], ◌∷◌, ◌++◌, Memᴰ}
+use Prim.Native.Nat.{ℕ, suc, ◌+◌, ◌≤◌, ◌<◌}
+use native.Mathlib.Decide.{ℕ_discrete}
 use native.Mathlib.Omega.{arith}
 use lib.ListN.{length, length-append}
-use Rattle·pattern.specs.Pattern.{Sized}
-use Rattle·pattern.specs.Language.Over.{empty}
-use Rattle·congruence.specs.Congruence.{Congruent, Listed}
-use Rattle·congruence.specs.Congruence.Congruent.{back, on}
-use Rattle·congruence.proofs.Laws.{of-equal}
-use Rattle·walk·specs.specs.Walk.{Question, Record, leftsOf, rightsOf, Position, upcoming, Remains, Implied, Moves, Outcome, keptOf, Ends, Moved, Walk}
-use Rattle·walk·specs.specs.Walk.Moves.{skipped}
-use Rattle·walk·specs.specs.Walk.Outcome.{Full}
-use Rattle·walk·specs.specs.Walk.Ends.{same, different, full}
-use Rattle·walk·specs.specs.Walk.Moved.{stay, go}
-use Rattle·walk·specs.specs.Meaning.{Covers}
-use Rattle·walk·proofs.proofs.Sound.{Sound, sound-begin, sound-move, walk-sound, congruent-more, implied-last}
-use Rattle·walk·proofs.proofs.Leading.{leads, has-word}
-use Rattle·walk·proofs.proofs.Counts.{counts}
+use Rattle.pattern.specs.Pattern.{Sized}
+use Rattle.pattern.specs.Language.Over.{empty}
+use Rattle.congruence.specs.Congruence.{Congruent, Listed}
+use Rattle.congruence.specs.Congruence.Congruent.{back, on}
+use Rattle.congruence.proofs.Laws.{of-equal}
+use Rattle.walk.specs.Walk.{Question, Record, leftsOf, rightsOf, Position, upcoming, Remains, Implied, Moves, Outcome, keptOf, Ends, Moved, Walk}
+use Rattle.walk.specs.Walk.Moves.{skipped}
+use Rattle.walk.specs.Walk.Outcome.{Full}
+use Rattle.walk.specs.Walk.Ends.{same, different, full}
+use Rattle.walk.specs.Walk.Moved.{stay, go}
+use Rattle.walk.specs.Meaning.{Covers}
+use Rattle.walk.proofs.Sound.{Sound, sound-begin, sound-move, walk-sound, congruent-more, implied-last}
+use Rattle.walk.proofs.Leading.{leads, has-word}
+use Rattle.walk.proofs.Counts.{counts}
 
 -- ---- a list with one place less, that has all that the first has but y
 
 record Without (y : ℕ) (l : List ℕ) : Type 0 where
   rest : List ℕ
   less : length l ≡ suc (length rest)
-  others : (x : ℕ) → (x ≡ y → ⊥) → List·Memᴰ x l → List·Memᴰ x rest
+  others : (x : ℕ) → (x ≡ y → ⊥) → Memᴰ x l → Memᴰ x rest
 
-without : {y : ℕ} {l : List ℕ} → List·Memᴰ y l → Without y l
-without {y} (List·Memᴰ·head {x} {xs} e) = record { rest = xs; less = refl; others = other }
+without : {y : ℕ} {l : List ℕ} → Memᴰ y l → Without y l
+without {y} (Memᴰ.head {x} {xs} e) = record { rest = xs; less = refl; others = other }
   where
-    other : (z : ℕ) → (z ≡ y → ⊥) → List·Memᴰ z (x ∷ xs) → List·Memᴰ z xs
-    other z f (List·Memᴰ·head g) = absurd (f (g ∙ sym e))
-    other z f (List·Memᴰ·tail m) = m
-without {y} (List·Memᴰ·tail {x} {xs} m) =
+    other : (z : ℕ) → (z ≡ y → ⊥) → Memᴰ z (x ∷ xs) → Memᴰ z xs
+    other z f (Memᴰ.head g) = absurd (f (g ∙ sym e))
+    other z f (Memᴰ.tail m) = m
+without {y} (Memᴰ.tail {x} {xs} m) =
     let r = without m in
-    record { rest = x ∷ r .rest; less = ap suc (r .less); others = other r }
+    record { rest = x ∷ r.rest; less = ap suc r.less; others = other r }
   where
-    other : (r : Without y xs) (z : ℕ) → (z ≡ y → ⊥) → List·Memᴰ z (x ∷ xs) → List·Memᴰ z (x ∷ r .rest)
-    other r z f (List·Memᴰ·head g) = List·Memᴰ·head g
-    other r z f (List·Memᴰ·tail k) = List·Memᴰ·tail (r .others z f k)
+    other : (r : Without y xs) (z : ℕ) → (z ≡ y → ⊥) → Memᴰ z (x ∷ xs) → Memᴰ z (x ∷ r.rest)
+    other r z f (Memᴰ.head g) = Memᴰ.head g
+    other r z f (Memᴰ.tail k) = Memᴰ.tail (r.others z f k)
 
-pub some : {y : ℕ} {l : List ℕ} → List·Memᴰ y l → 0 < length l
-some (List·Memᴰ·head e) = omega arith
-some (List·Memᴰ·tail m) = omega arith
+pub some : {y : ℕ} {l : List ℕ} → Memᴰ y l → 0 < length l
+some (Memᴰ.head e) = omega arith
+some (Memᴰ.tail m) = omega arith
 
 -- ---- labels: each set has one, sets with one label are congruent, and each record kept spares a label
 
@@ -53,7 +52,7 @@ record Labelled (sets : List ℕ) (kept : List Record) : Type 0 where
   label : ℕ → ℕ
   labels : List ℕ
   spared : length labels + length kept ≡ length sets
-  total : (x : ℕ) → List·Memᴰ x sets → List·Memᴰ (label x) labels
+  total : (x : ℕ) → Memᴰ x sets → Memᴰ (label x) labels
   joins : (x y : ℕ) → label x ≡ label y → Congruent (Listed (leftsOf kept) (rightsOf kept)) x y
 
 labelled-begin : (sets : List ℕ) → Labelled sets []
@@ -64,88 +63,88 @@ relabel : (t u z : ℕ) → Dec (z ≡ u) → ℕ
 relabel t u z (yes e) = t
 relabel t u z (no f) = z
 
-labelled-more : {sets : List ℕ} {kept : List Record} (r : Record) → List·Memᴰ (r .left) sets → List·Memᴰ (r .right) sets
+labelled-more : {sets : List ℕ} {kept : List Record} (r : Record) → Memᴰ r.left sets → Memᴰ r.right sets
     → (Implied kept r → ⊥) → Labelled sets kept → Labelled sets (kept ++ (r ∷ []))
 unfolding relabel
 labelled-more {sets} {kept} r m n f L =
     record {
-      label = λ x. relabel t u (L .label x) (ℕ-discrete (L .label x) u);
-      labels = W .rest;
-      spared = simp length-append (omega (arith, W .less, L .spared));
-      total = λ x k. total′ (L .label x) (ℕ-discrete (L .label x) u) (L .total x k);
-      joins = λ x y. joins′ x y (ℕ-discrete (L .label x) u) (ℕ-discrete (L .label y) u);
+      label = λ x. relabel t u (L.label x) (ℕ_discrete (L.label x) u);
+      labels = W.rest;
+      spared = simp length-append (omega (arith, W.less, L.spared));
+      total = λ x k. total' (L.label x) (ℕ_discrete (L.label x) u) (L.total x k);
+      joins = λ x y. joins' x y (ℕ_discrete (L.label x) u) (ℕ_discrete (L.label y) u);
     }
   where
     t : ℕ
-    t = L .label (r .left)
+    t = L.label r.left
 
     u : ℕ
-    u = L .label (r .right)
+    u = L.label r.right
 
     apart : t ≡ u → ⊥
-    apart e = f (L .joins (r .left) (r .right) e)
+    apart e = f (L.joins r.left r.right e)
 
-    W : Without u (L .labels)
-    W = without (L .total (r .right) n)
+    W : Without u L.labels
+    W = without (L.total r.right n)
 
-    total′ : (z : ℕ) (d : Dec (z ≡ u)) → List·Memᴰ z (L .labels) → List·Memᴰ (relabel t u z d) (W .rest)
-    total′ z (yes e) k = W .others t apart (L .total (r .left) m)
-    total′ z (no g) k = W .others z g k
+    total' : (z : ℕ) (d : Dec (z ≡ u)) → Memᴰ z L.labels → Memᴰ (relabel t u z d) W.rest
+    total' z (yes e) k = W.others t apart (L.total r.left m)
+    total' z (no g) k = W.others z g k
 
     old : {a b : ℕ} → Congruent (Listed (leftsOf kept) (rightsOf kept)) a b → Congruent (Listed (leftsOf (kept ++ (r ∷ []))) (rightsOf (kept ++ (r ∷ [])))) a b
     old h = congruent-more kept r h
 
-    new : Congruent (Listed (leftsOf (kept ++ (r ∷ []))) (rightsOf (kept ++ (r ∷ [])))) (r .left) (r .right)
+    new : Congruent (Listed (leftsOf (kept ++ (r ∷ []))) (rightsOf (kept ++ (r ∷ [])))) r.left r.right
     new = implied-last kept r
 
-    joins′ : (x y : ℕ) (d : Dec (L .label x ≡ u)) (e : Dec (L .label y ≡ u)) → relabel t u (L .label x) d ≡ relabel t u (L .label y) e
+    joins' : (x y : ℕ) (d : Dec (L.label x ≡ u)) (e : Dec (L.label y ≡ u)) → relabel t u (L.label x) d ≡ relabel t u (L.label y) e
         → Congruent (Listed (leftsOf (kept ++ (r ∷ []))) (rightsOf (kept ++ (r ∷ [])))) x y
-    joins′ x y (yes d) (yes e) h = old (L .joins x y (d ∙ sym e))
-    joins′ x y (yes d) (no e) h = on (old (L .joins x (r .right) d)) (on (back new) (old (L .joins (r .left) y h)))
-    joins′ x y (no d) (yes e) h = on (old (L .joins x (r .left) h)) (on new (old (L .joins (r .right) y (sym e))))
-    joins′ x y (no d) (no e) h = old (L .joins x y h)
+    joins' x y (yes d) (yes e) h = old (L.joins x y (d ∙ sym e))
+    joins' x y (yes d) (no e) h = on (old (L.joins x r.right d)) (on (back new) (old (L.joins r.left y h)))
+    joins' x y (no d) (yes e) h = on (old (L.joins x r.left h)) (on new (old (L.joins r.right y (sym e))))
+    joins' x y (no d) (no e) h = old (L.joins x y h)
 
 -- ---- along the walk
 
-module _ {Q : Question} (pos : 0 < Q .pattern .letters) {sets : List ℕ} (covers : Covers Q sets) where
-  candidate-in : {p : Position} → Sound Q p → Remains Q p → List·Memᴰ (upcoming Q p .left) sets × List·Memᴰ (upcoming Q p .right) sets
+module _ {Q : Question} (pos : 0 < Q.pattern.letters) {sets : List ℕ} (covers : Covers Q sets) where
+  candidate-in : {p : Position} → Sound Q p → Remains Q p → Memᴰ (upcoming Q p).left sets × Memᴰ (upcoming Q p).right sets
   candidate-in {p} s l =
-      let (w, k) = has-word Q pos (p .kept) (s .reached) (p .examined) l in
-      let t = leads Q pos (p .kept) (s .reached) l k in
-      (rw (t .left) at (covers .from-left w (t .letters)), rw (t .right) at (covers .from-right w (t .letters)))
+      let (w, k) = has-word Q pos p.kept s.reached p.examined l in
+      let t = leads Q pos p.kept s.reached l k in
+      (rw t.left at (covers.from-left w t.letters), rw t.right at (covers.from-right w t.letters))
 
-  labelled-move : {room : ℕ} {p q : Position} → Moves Q room p q → Sound Q p → Labelled sets (p .kept) → Labelled sets (q .kept)
+  labelled-move : {room : ℕ} {p q : Position} → Moves Q room p q → Sound Q p → Labelled sets p.kept → Labelled sets q.kept
   labelled-move (skipped l c) s L = L
-  labelled-move {p = p} (Moves.kept l f a h) s L = let i = candidate-in s l in labelled-more (upcoming Q p) (i .0) (i .1) f L
+  labelled-move {p = p} (Moves.kept l f a h) s L = let i = candidate-in s l in labelled-more (upcoming Q p) i.0 i.1 f L
 
-  labelled-moved : {room : ℕ} {p q : Position} → Moved Q room p q → Sound Q p → Labelled sets (p .kept) → Labelled sets (q .kept)
+  labelled-moved : {room : ℕ} {p q : Position} → Moved Q room p q → Sound Q p → Labelled sets p.kept → Labelled sets q.kept
   labelled-moved stay s L = L
   labelled-moved (go m n) s L = labelled-moved n (sound-move Q pos m s) (labelled-move m s L)
 
   few : {kept : List Record} → Labelled sets kept → length kept < length sets
-  few L = omega (arith, L .spared, some (L .total _ (covers .from-left [] empty)))
+  few L = omega (arith, L.spared, some (L.total _ (covers.from-left [] empty)))
 
-  few-end : {room : ℕ} {p : Position} {o : Outcome} → Labelled sets (p .kept) → Ends Q room p o → length (keptOf o) < length sets
+  few-end : {room : ℕ} {p : Position} {o : Outcome} → Labelled sets p.kept → Ends Q room p o → length (keptOf o) < length sets
   few-end L (same n) = few L
   few-end L (different l f a w) = few L
   few-end L (full l f a h) = few L
 
-  few-full : {room : ℕ} {p : Position} {kept : List Record} {e : ℕ} → Sound Q p → Labelled sets (p .kept) → Ends Q room p (Full kept e) → suc (length kept) < length sets
+  few-full : {room : ℕ} {p : Position} {kept : List Record} {e : ℕ} → Sound Q p → Labelled sets p.kept → Ends Q room p (Full kept e) → suc (length kept) < length sets
   few-full {p = p} s L (full l f a h) =
       let i = candidate-in s l in
       let r = upcoming Q p in
-      omega (arith, few (labelled-more r (i .0) (i .1) f L), length-append (p .kept) (r ∷ []))
+      omega (arith, few (labelled-more r i.0 i.1 f L), length-append p.kept (r ∷ []))
 
-module _ {Q : Question} {room : ℕ} {sets : List ℕ} (sized : Sized (Q .pattern .states) (Q .pattern .letters)) (covers : Covers Q sets) where
-  labelled : {o : Outcome} (w : Walk Q room o) → Labelled sets (w .last .kept)
-  labelled w = let pos = sized .some-letter in labelled-moved pos covers (w .moved) (sound-begin Q pos) (labelled-begin sets)
+module _ {Q : Question} {room : ℕ} {sets : List ℕ} (sized : Sized Q.pattern.states Q.pattern.letters) (covers : Covers Q sets) where
+  labelled : {o : Outcome} (w : Walk Q room o) → Labelled sets w.last.kept
+  labelled w = let pos = sized.some-letter in labelled-moved pos covers w.moved (sound-begin Q pos) (labelled-begin sets)
 
   -- fewer records are kept than sets are reached from either start
   pub room-enough : {o : Outcome} → Walk Q room o → length (keptOf o) < length sets
-  room-enough w = few-end (sized .some-letter) covers (labelled w) (w .ends)
+  room-enough w = few-end sized.some-letter covers (labelled w) w.ends
 
   -- a room of one less than those is never full
   pub never-full : {kept : List Record} {e : ℕ} → length sets ≤ room + 1 → Walk Q room (Full kept e) → ⊥
   never-full h w =
-      let g = few-full (sized .some-letter) covers (walk-sound sized w) (labelled w) (w .ends) in
-      omega (arith, g, counts sized w .by-answer)
+      let g = few-full sized.some-letter covers (walk-sound sized w) (labelled w) w.ends in
+      omega (arith, g, (counts sized w).by-answer)

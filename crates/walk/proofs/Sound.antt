@@ -1,51 +1,51 @@
 -- What holds wherever the walk stands: its count, that every candidate dealt with is congruent by the records, and where each record lies. Assumes nothing.
-use mathlib.Core.Path.{_≡_, refl, sym, ap, _∙_, subst}
-use mathlib.Core.Logic.{⊎-elim}
-use mathlib.Core.List.{List, [], _∷_, _++_}
-use Prim.Native.Nat.{ℕ, zero, suc, _+_, _/_, _%_, _≤_, _<_}
-use native.Mathlib.Nat.{div-lt-iff-lt-mul, mod-lt, mul-comm, mul-add, mul-one, eq-or-lt-of-le, le-of-suc-le-suc}
+use mathlib.Core.Path.{◌≡◌, refl, sym, ap, ◌∙◌, subst}
+use mathlib.Core.Logic.{⊎_elim}
+use mathlib.Core.List.{List, [], ◌∷◌, ◌++◌}
+use Prim.Native.Nat.{ℕ, zero, suc, ◌+◌, ◌/◌, ◌%◌, ◌≤◌, ◌<◌}
+use native.Mathlib.Nat.{div-lt_iff_lt-mul, mod-lt, mul_comm, mul-add, mul-one, eq-or-lt_of_le, le_of_suc-le-suc}
 use native.Mathlib.Omega.{arith}
-use lib.ListN.{length, getD, length-append, length-map}
-use Rattle·pattern.specs.Pattern.{Sized}
-use Rattle·pattern.specs.Language.{next, reach, accepts, Over}
-use Rattle·pattern.specs.Language.Over.{empty}
-use Rattle·pattern.proofs.Words.{reach-snoc, over-snoc}
-use Rattle·congruence.specs.Congruence.{Congruent, Listed}
-use Rattle·congruence.specs.Congruence.Congruent.{given}
-use Rattle·congruence.proofs.Laws.{monotone}
-use Rattle·walk·specs.specs.Walk.{Question, Record, leftsOf, rightsOf, parentsOf, lettersOf, candidate, candidates, Position, begin, upcoming, Implied, Agrees, Moves, Path, Outcome, Moved, Walk}
-use Rattle·walk·specs.specs.Walk.Moves.{skipped}
-use Rattle·walk·specs.specs.Walk.Path.{start, further}
-use Rattle·walk·specs.specs.Walk.Moved.{stay, go}
-use Rattle·walk·proofs.proofs.Columns.{column-snoc, column-old, column-new}
-use Rattle·walk·proofs.proofs.Paths.{path-append}
+use lib.ListN.{length, get_or, length-append, length-map}
+use Rattle.pattern.specs.Pattern.{Sized}
+use Rattle.pattern.specs.Language.{next, reach, accepts, Over}
+use Rattle.pattern.specs.Language.Over.{empty}
+use Rattle.pattern.proofs.Words.{reach-snoc, over-snoc}
+use Rattle.congruence.specs.Congruence.{Congruent, Listed}
+use Rattle.congruence.specs.Congruence.Congruent.{given}
+use Rattle.congruence.proofs.Laws.{monotone}
+use Rattle.walk.specs.Walk.{Question, Record, leftsOf, rightsOf, parentsOf, lettersOf, candidate, candidates, Position, begin, upcoming, Implied, Agrees, Moves, Path, Outcome, Moved, Walk}
+use Rattle.walk.specs.Walk.Moves.{skipped}
+use Rattle.walk.specs.Walk.Path.{start, further}
+use Rattle.walk.specs.Walk.Moved.{stay, go}
+use Rattle.walk.proofs.Columns.{column-snoc, column-old, column-new}
+use Rattle.walk.proofs.Paths.{path-append}
 
 abbrev left : Record → ℕ
-left r = r .left
+left r = r.left
 
 abbrev right : Record → ℕ
-right r = r .right
+right r = r.right
 
 abbrev parent : Record → ℕ
-parent r = r .parent
+parent r = r.parent
 
 abbrev letter : Record → ℕ
-letter r = r .letter
+letter r = r.letter
 
 -- ---- a record more
 
 module _ (kept : List Record) (r : Record) where
-  below-more : {i : ℕ} → i < length (leftsOf kept) → i < length (leftsOf (kept ++ (r ∷ [])))
-  below-more h = simp (length-map, length-append) (omega (arith, length-map kept left))
+  below_more : {i : ℕ} → i < length (leftsOf kept) → i < length (leftsOf (kept ++ (r ∷ [])))
+  below_more h = simp (length-map, length-append) (omega (arith, length-map kept left))
 
   listed-more : {a b : ℕ} → Listed (leftsOf kept) (rightsOf kept) a b → Listed (leftsOf (kept ++ (r ∷ []))) (rightsOf (kept ++ (r ∷ []))) a b
   listed-more l =
-      let h : l .at < length kept = rw (length-map kept left) at (l .below) in
+      let h : l.at < length kept = rw (length-map kept left) at l.below in
       record {
-        at = l .at;
-        below = below-more (l .below);
-        left = column-old left kept r (l .at) h ∙ l .left;
-        right = column-old right kept r (l .at) h ∙ l .right;
+        at = l.at;
+        below = below_more l.below;
+        left = column-old left kept r l.at h ∙ l.left;
+        right = column-old right kept r l.at h ∙ l.right;
       }
 
   pub congruent-more : {a b : ℕ} → Congruent (Listed (leftsOf kept) (rightsOf kept)) a b
@@ -65,30 +65,30 @@ module _ (kept : List Record) (r : Record) where
   path-more : {i : ℕ} {w : List ℕ} → Path (parentsOf kept) (lettersOf kept) i w → Path (parentsOf (kept ++ (r ∷ []))) (lettersOf (kept ++ (r ∷ []))) i w
   path-more p =
       rw (column-snoc parent kept r, column-snoc letter kept r)
-      (path-append (r .parent ∷ []) (r .letter ∷ []) (length-map kept parent ∙ sym (length-map kept letter)) p)
+      (path-append (r.parent ∷ []) (r.letter ∷ []) (length-map kept parent ∙ sym (length-map kept letter)) p)
 
 -- record number i lies at the end of its path, which is no longer than i, and its two sides agree
 pub record Reached (Q : Question) (kept : List Record) (i : ℕ) : Type 0 where
   pub word : List ℕ
   pub path : Path (parentsOf kept) (lettersOf kept) i word
-  pub over : Over (Q .pattern .letters) word
+  pub over : Over Q.pattern.letters word
   pub short : length word ≤ i
-  pub left : reach (Q .pattern) (Q .left) word ≡ getD (leftsOf kept) i 0
-  pub right : reach (Q .pattern) (Q .right) word ≡ getD (rightsOf kept) i 0
-  pub agrees : accepts (Q .pattern) (getD (leftsOf kept) i 0) [] ≡ accepts (Q .pattern) (getD (rightsOf kept) i 0) []
-  pub earlier : 0 < i → getD (parentsOf kept) i 0 < i
+  pub left : reach Q.pattern Q.left word ≡ get_or (leftsOf kept) i 0
+  pub right : reach Q.pattern Q.right word ≡ get_or (rightsOf kept) i 0
+  pub agrees : accepts Q.pattern (get_or (leftsOf kept) i 0) [] ≡ accepts Q.pattern (get_or (rightsOf kept) i 0) []
+  pub earlier : 0 < i → get_or (parentsOf kept) i 0 < i
 
 -- what holds at a position that the walk comes to
 pub record Sound (Q : Question) (p : Position) : Type 0 where
-  pub fewer : length (p .kept) ≤ p .examined
-  pub counted : p .examined ≤ candidates Q (p .kept)
-  pub dealt : (e : ℕ) → e < p .examined → Implied (p .kept) (candidate Q (p .kept) e)
-  pub reached : (i : ℕ) → i < length (p .kept) → Reached Q (p .kept) i
+  pub fewer : length p.kept ≤ p.examined
+  pub counted : p.examined ≤ candidates Q p.kept
+  pub dealt : (e : ℕ) → e < p.examined → Implied p.kept (candidate Q p.kept e)
+  pub reached : (i : ℕ) → i < length p.kept → Reached Q p.kept i
 
-module _ (Q : Question) (pos : 0 < Q .pattern .letters) where
+module _ (Q : Question) (pos : 0 < Q.pattern.letters) where
   -- a later candidate comes from a record that is kept
-  pub from-below : (kept : List Record) (e : ℕ) → suc e < candidates Q kept → e / Q .pattern .letters < length kept
-  from-below kept e h = div-lt-iff-lt-mul pos .1 (omega (arith, mul-comm (length kept) (Q .pattern .letters)))
+  pub from-below : (kept : List Record) (e : ℕ) → suc e < candidates Q kept → e / Q.pattern.letters < length kept
+  from-below kept e h = (div-lt_iff_lt-mul pos).1 (omega (arith, mul_comm (length kept) Q.pattern.letters))
 
   -- a record more leaves the candidates that were there
   candidate-more : (kept : List Record) (r : Record) (e : ℕ) → e < candidates Q kept → candidate Q (kept ++ (r ∷ [])) e ≡ candidate Q kept e
@@ -96,9 +96,9 @@ module _ (Q : Question) (pos : 0 < Q .pattern .letters) where
   candidate-more kept r zero h = refl
   candidate-more kept r (suc e) h =
       let b = from-below kept e h in
-      rw (column-old left kept r (e / Q .pattern .letters) b, column-old right kept r (e / Q .pattern .letters) b)
+      rw (column-old left kept r (e / Q.pattern.letters) b, column-old right kept r (e / Q.pattern.letters) b)
 
-  pub candidates-more : (kept : List Record) (r : Record) → candidates Q (kept ++ (r ∷ [])) ≡ candidates Q kept + Q .pattern .letters
+  pub candidates-more : (kept : List Record) (r : Record) → candidates Q (kept ++ (r ∷ [])) ≡ candidates Q kept + Q.pattern.letters
   candidates-more kept r = simp (length-append, mul-add, mul-one) (omega arith)
 
   reached-more : (kept : List Record) (r : Record) {i : ℕ} → i < length kept → Reached Q kept i → Reached Q (kept ++ (r ∷ [])) i
@@ -106,14 +106,14 @@ module _ (Q : Question) (pos : 0 < Q .pattern .letters) where
       let el = column-old left kept r i l in
       let er = column-old right kept r i l in
       record {
-        word = R .word;
-        path = path-more kept r (R .path);
-        over = R .over;
-        short = R .short;
-        left = R .left ∙ sym el;
-        right = R .right ∙ sym er;
-        agrees = rw (el, er) (R .agrees);
-        earlier = λ h. rw (column-old parent kept r i l) (R .earlier h);
+        word = R.word;
+        path = path-more kept r R.path;
+        over = R.over;
+        short = R.short;
+        left = R.left ∙ sym el;
+        right = R.right ∙ sym er;
+        agrees = rw (el, er) R.agrees;
+        earlier = λ h. rw (column-old parent kept r i l) (R.earlier h);
       }
 
   reached-new : (kept : List Record) (e : ℕ) → length kept ≤ e → e < candidates Q kept → ((i : ℕ) → i < length kept → Reached Q kept i)
@@ -132,8 +132,8 @@ module _ (Q : Question) (pos : 0 < Q .pattern .letters) where
       }
   reached-new (r ∷ kept) zero f l old a = absurd (omega arith)
   reached-new kept (suc e) f l old a =
-      let k = Q .pattern .letters in
-      let P = Q .pattern in
+      let k = Q.pattern.letters in
+      let P = Q.pattern in
       let b = from-below kept e l in
       let R = old (e / k) b in
       let r = candidate Q kept (suc e) in
@@ -143,14 +143,14 @@ module _ (Q : Question) (pos : 0 < Q .pattern .letters) where
       let ep = column-new parent kept r in
       let ea = column-new letter kept r in
       record {
-        word = R .word ++ (e % k ∷ []);
-        path = subst (λ (a : ℕ). Path (parentsOf K) (lettersOf K) (length kept) (R .word ++ (a ∷ []))) ea
+        word = R.word ++ (e % k ∷ []);
+        path = subst (λ (a : ℕ). Path (parentsOf K) (lettersOf K) (length kept) (R.word ++ (a ∷ []))) ea
             (further (omega arith) (simp (length-map, length-append) (omega arith))
-            (subst (λ (i : ℕ). Path (parentsOf K) (lettersOf K) i (R .word)) (sym ep) (path-more kept r (R .path))));
-        over = over-snoc (R .over) (mod-lt e pos);
-        short = simp length-append (omega (arith, R .short));
-        left = reach-snoc P (Q .left) (R .word) (e % k) ∙ ap (λ (s : ℕ). next P s (e % k)) (R .left) ∙ sym el;
-        right = reach-snoc P (Q .right) (R .word) (e % k) ∙ ap (λ (s : ℕ). next P s (e % k)) (R .right) ∙ sym er;
+            (subst (λ (i : ℕ). Path (parentsOf K) (lettersOf K) i R.word) (sym ep) (path-more kept r R.path)));
+        over = over-snoc R.over (mod-lt e pos);
+        short = simp length-append (omega (arith, R.short));
+        left = reach-snoc P Q.left R.word (e % k) ∙ ap (λ (s : ℕ). next P s (e % k)) R.left ∙ sym el;
+        right = reach-snoc P Q.right R.word (e % k) ∙ ap (λ (s : ℕ). next P s (e % k)) R.right ∙ sym er;
         agrees = rw (el, er) a;
         earlier = λ h. rw ep b;
       }
@@ -161,24 +161,24 @@ module _ (Q : Question) (pos : 0 < Q .pattern .letters) where
   pub sound-move : {room : ℕ} {p q : Position} → Moves Q room p q → Sound Q p → Sound Q q
   sound-move {p = p} (skipped l c) s =
       record {
-        fewer = omega (arith, s .fewer);
+        fewer = omega (arith, s.fewer);
         counted = l;
-        dealt = λ e h. ⊎-elim (λ (z : e ≡ p .examined). rw z c) (λ g. s .dealt e g) (eq-or-lt-of-le (le-of-suc-le-suc h));
-        reached = s .reached;
+        dealt = λ e h. ⊎_elim (λ (z : e ≡ p.examined). rw z c) (λ g. s.dealt e g) (eq-or-lt_of_le (le_of_suc-le-suc h));
+        reached = s.reached;
       }
   sound-move {p = p} (Moves.kept l f a h) s =
       let r = upcoming Q p in
       record {
-        fewer = simp length-append (omega (arith, s .fewer));
-        counted = omega (arith, candidates-more (p .kept) r);
-        dealt = λ e g. ⊎-elim
-            (λ (z : e ≡ p .examined). rw (z, candidate-more (p .kept) r (p .examined) l) (implied-last (p .kept) r))
-            (λ b. rw (candidate-more (p .kept) r e (omega (arith, s .counted))) (congruent-more (p .kept) r (s .dealt e b)))
-            (eq-or-lt-of-le (le-of-suc-le-suc g));
-        reached = λ i g. ⊎-elim
-            (λ (z : i ≡ length (p .kept)). rw z (reached-new (p .kept) (p .examined) (s .fewer) l (s .reached) a))
-            (λ b. reached-more (p .kept) r b (s .reached i b))
-            (eq-or-lt-of-le (le-of-suc-le-suc (let g′ : i < length (p .kept) + 1 = rw length-append at g in omega arith)));
+        fewer = simp length-append (omega (arith, s.fewer));
+        counted = omega (arith, candidates-more p.kept r);
+        dealt = λ e g. ⊎_elim
+            (λ (z : e ≡ p.examined). rw (z, candidate-more p.kept r p.examined l) (implied-last p.kept r))
+            (λ b. rw (candidate-more p.kept r e (omega (arith, s.counted))) (congruent-more p.kept r (s.dealt e b)))
+            (eq-or-lt_of_le (le_of_suc-le-suc g));
+        reached = λ i g. ⊎_elim
+            (λ (z : i ≡ length p.kept). rw z (reached-new p.kept p.examined s.fewer l s.reached a))
+            (λ b. reached-more p.kept r b (s.reached i b))
+            (eq-or-lt_of_le (le_of_suc-le-suc (let g' : i < length p.kept + 1 = rw length-append at g in omega arith)));
       }
 
   pub sound-moved : {room : ℕ} {p q : Position} → Moved Q room p q → Sound Q p → Sound Q q
@@ -187,17 +187,17 @@ module _ (Q : Question) (pos : 0 < Q .pattern .letters) where
 
 -- ---- the end of a walk
 
-pub walk-sound : {Q : Question} {room : ℕ} {o : Outcome} → Sized (Q .pattern .states) (Q .pattern .letters) → (w : Walk Q room o) → Sound Q (w .last)
-walk-sound {Q} sized w = sound-moved Q (sized .some-letter) (w .moved) (sound-begin Q (sized .some-letter))
+pub walk-sound : {Q : Question} {room : ℕ} {o : Outcome} → Sized Q.pattern.states Q.pattern.letters → (w : Walk Q room o) → Sound Q w.last
+walk-sound {Q} sized w = sound-moved Q sized.some-letter w.moved (sound-begin Q sized.some-letter)
 
 -- ---- the room
 
-fits-move : {Q : Question} {room : ℕ} {p q : Position} → Moves Q room p q → length (p .kept) ≤ room → length (q .kept) ≤ room
+fits-move : {Q : Question} {room : ℕ} {p q : Position} → Moves Q room p q → length p.kept ≤ room → length q.kept ≤ room
 fits-move (skipped l c) h = h
 fits-move (Moves.kept l f a g) h = simp length-append (omega arith)
 
 -- no more records are kept than the room allows
-pub fits-moved : {Q : Question} {room : ℕ} {p q : Position} → Moved Q room p q → length (p .kept) ≤ room → length (q .kept) ≤ room
+pub fits-moved : {Q : Question} {room : ℕ} {p q : Position} → Moved Q room p q → length p.kept ≤ room → length q.kept ≤ room
 fits-moved stay h = h
 fits-moved (go m n) h = fits-moved n (fits-move m h)
 

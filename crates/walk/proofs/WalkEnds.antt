@@ -1,45 +1,45 @@
 -- `walk-ends`: every valid question has an outcome in every room. Assumes nothing.
 use mathlib.Core.Bool.{Bool-discrete}
-use Prim.Native.Nat.{ℕ, zero, suc, _+_, _*_, _≤_, _<_}
-use native.Mathlib.Nat.{mul-le-mul-left}
-use native.Mathlib.Decide.{decLt}
+use Prim.Native.Nat.{ℕ, zero, suc, ◌+◌, ◌*◌, ◌≤◌, ◌<◌}
+use native.Mathlib.Nat.{mul-le-mul_left}
+use native.Mathlib.Decide.{dec_lt}
 use native.Mathlib.Omega.{arith}
 use lib.ListN.{length}
-use Rattle·congruence.proofs.Computed.{congruent-dec}
-use Rattle·walk·specs.specs.Walk.{Question, leftsOf, rightsOf, candidates, Position, begin, upcoming, Remains, Implied, Agrees, Moves, Outcome, Ends, Moved, Walk}
-use Rattle·walk·specs.specs.Walk.Moves.{skipped}
-use Rattle·walk·specs.specs.Walk.Ends.{same, different, full}
-use Rattle·walk·specs.specs.Walk.Moved.{stay, go}
-use Rattle·walk·specs.specs.Meaning.{Proper}
-use Rattle·walk·proofs.proofs.Sound.{Sound, sound-begin, sound-move, fits-moved}
-use Rattle·walk·proofs.proofs.Leading.{has-word}
+use Rattle.congruence.proofs.Computed.{congruent-dec}
+use Rattle.walk.specs.Walk.{Question, leftsOf, rightsOf, candidates, Position, begin, upcoming, Remains, Implied, Agrees, Moves, Outcome, Ends, Moved, Walk}
+use Rattle.walk.specs.Walk.Moves.{skipped}
+use Rattle.walk.specs.Walk.Ends.{same, different, full}
+use Rattle.walk.specs.Walk.Moved.{stay, go}
+use Rattle.walk.specs.Meaning.{Proper}
+use Rattle.walk.proofs.Sound.{Sound, sound-begin, sound-move, fits-moved}
+use Rattle.walk.proofs.Leading.{has-word}
 
 module _ (Q : Question) (p : Proper Q) where
-  pos : 0 < Q .pattern .letters
-  pos = p .valid .sized .some-letter
+  pos : 0 < Q.pattern.letters
+  pos = p.valid.sized.some-letter
 
   -- one candidate is dealt with: the walk goes on, or it ends
   data Next (room : ℕ) (at : Position) : Type 0 where
-    moves : {to : Position} → Moves Q room at to → at .examined < to .examined → Next room at
+    moves : {to : Position} → Moves Q room at to → at.examined < to.examined → Next room at
     finishes : {o : Outcome} → Ends Q room at o → Next room at
 
   step : (room : ℕ) (at : Position) → Sound Q at → Next room at
-  step room at s = left (decLt (at .examined) (candidates Q (at .kept)))
+  step room at s = left (dec_lt at.examined (candidates Q at.kept))
     where
-      room-for : Remains Q at → (Implied (at .kept) (upcoming Q at) → ⊥) → Agrees Q (upcoming Q at) → Dec (length (at .kept) < room) → Next room at
+      room-for : Remains Q at → (Implied at.kept (upcoming Q at) → ⊥) → Agrees Q (upcoming Q at) → Dec (length at.kept < room) → Next room at
       room-for l f a (yes h) = moves (Moves.kept l f a h) (omega arith)
       room-for l f a (no h) = finishes (full l f a (omega arith))
 
-      agree : Remains Q at → (Implied (at .kept) (upcoming Q at) → ⊥) → Dec (Agrees Q (upcoming Q at)) → Next room at
-      agree l f (yes a) = room-for l f a (decLt (length (at .kept)) room)
-      agree l f (no a) = let (w, h) = has-word Q pos (at .kept) (s .reached) (at .examined) l in finishes (different l f a h)
+      agree : Remains Q at → (Implied at.kept (upcoming Q at) → ⊥) → Dec (Agrees Q (upcoming Q at)) → Next room at
+      agree l f (yes a) = room-for l f a (dec_lt (length at.kept) room)
+      agree l f (no a) = let (w, h) = has-word Q pos at.kept s.reached at.examined l in finishes (different l f a h)
 
-      known : Remains Q at → Dec (Implied (at .kept) (upcoming Q at)) → Next room at
+      known : Remains Q at → Dec (Implied at.kept (upcoming Q at)) → Next room at
       known l (yes c) = moves (skipped l c) (omega arith)
       known l (no f) = agree l f (Bool-discrete _ _)
 
       left : Dec (Remains Q at) → Next room at
-      left (yes l) = known l (congruent-dec (leftsOf (at .kept)) (rightsOf (at .kept)) _ _)
+      left (yes l) = known l (congruent-dec (leftsOf at.kept) (rightsOf at.kept) _ _)
       left (no n) = finishes (same n)
 
   record Goes (room : ℕ) (at : Position) : Type 0 where
@@ -48,19 +48,19 @@ module _ (Q : Question) (p : Proper Q) where
     moved : Moved Q room at last
     ends : Ends Q room last outcome
 
-  goes : (f room : ℕ) (at : Position) → Sound Q at → length (at .kept) ≤ room
-      → 1 + Q .pattern .letters * room < at .examined + f → Goes room at
-  goes zero room at s h l = absurd (omega (arith, s .counted, mul-le-mul-left (Q .pattern .letters) h))
+  goes : (f room : ℕ) (at : Position) → Sound Q at → length at.kept ≤ room
+      → 1 + Q.pattern.letters * room < at.examined + f → Goes room at
+  goes zero room at s h l = absurd (omega (arith, s.counted, mul-le-mul_left Q.pattern.letters h))
   goes (suc f) room at s h l =
       pick (step room at s) (λ to m x. goes f room to (sound-move Q pos m s) (fits-moved (go m stay) h) (omega arith))
     where
-      pick : Next room at → ((to : Position) → Moves Q room at to → at .examined < to .examined → Goes room to) → Goes room at
+      pick : Next room at → ((to : Position) → Moves Q room at to → at.examined < to.examined → Goes room to) → Goes room at
       pick (moves {to} m x) rest =
           let g = rest to m x in
-          record { outcome = g .outcome; last = g .last; moved = go m (g .moved); ends = g .ends }
+          record { outcome = g.outcome; last = g.last; moved = go m g.moved; ends = g.ends }
       pick (finishes {o} e) rest = record { outcome = o; last = at; moved = stay; ends = e }
 
   pub walk-ends : (room : ℕ) → (o : Outcome) × Walk Q room o
   walk-ends room =
-      let g = goes (2 + Q .pattern .letters * room) room begin (sound-begin Q pos) (omega arith) (omega arith) in
-      (g .outcome, record { last = g .last; moved = g .moved; ends = g .ends })
+      let g = goes (2 + Q.pattern.letters * room) room begin (sound-begin Q pos) (omega arith) (omega arith) in
+      (g.outcome, record { last = g.last; moved = g.moved; ends = g.ends })

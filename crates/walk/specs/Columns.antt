@@ -7,11 +7,9 @@
 --   layColumns            records laid over the first places, the rest as it was; store: one record at a place
 --   firsts                the first places of every column
 --   Fit                   no column is shorter than the room; lengths: how long each is
-use mathlib.Core.List.{List, [], _∷_, map}
-use Prim.Native.Nat.{ℕ, _≤_}
-use lib.ListN.{length, getD, set, take}
-use Rattle·lent.specs.Lent.{lay}
-use Rattle·walk·specs.specs.Walk.{Record}
+use Rattle.std.specs.Prelude.{List, [], ◌∷◌, map, ℕ, ◌≤◌, length, get_or, set, take}
+use Rattle.lent.specs.Lent.{lay}
+use Rattle.walk.specs.Walk.{Record}
 
 pub data Field : Type 0 where
   left : Field
@@ -23,10 +21,10 @@ abbrev pub fields : List Field
 fields = Field.left ∷ Field.right ∷ Field.parent ∷ Field.letter ∷ []
 
 abbrev pub value : Field → Record → ℕ
-value Field.left = λ (r : Record). r .left
-value Field.right = λ (r : Record). r .right
-value Field.parent = λ (r : Record). r .parent
-value Field.letter = λ (r : Record). r .letter
+value Field.left = λ (r : Record). r.left
+value Field.right = λ (r : Record). r.right
+value Field.parent = λ (r : Record). r.parent
+value Field.letter = λ (r : Record). r.letter
 
 abbrev pub recordBy : (Field → ℕ) → Record
 recordBy f = record { left = f Field.left; right = f Field.right; parent = f Field.parent; letter = f Field.letter }
@@ -39,10 +37,10 @@ pub record Columns : Type 0 where
   pub taken : List ℕ
 
 abbrev pub column : Field → Columns → List ℕ
-column Field.left = λ (c : Columns). c .lefts
-column Field.right = λ (c : Columns). c .rights
-column Field.parent = λ (c : Columns). c .parents
-column Field.letter = λ (c : Columns). c .taken
+column Field.left = λ (c : Columns). c.lefts
+column Field.right = λ (c : Columns). c.rights
+column Field.parent = λ (c : Columns). c.parents
+column Field.letter = λ (c : Columns). c.taken
 
 abbrev pub columnsBy : (Field → List ℕ) → Columns
 columnsBy f = record { lefts = f Field.left; rights = f Field.right; parents = f Field.parent; taken = f Field.letter }
@@ -54,7 +52,7 @@ abbrev pub columnsOf : List Record → Columns
 columnsOf kept = columnsBy (λ (x : Field). map (value x) kept)
 
 abbrev pub recordAt : Columns → ℕ → Record
-recordAt c i = recordBy (λ (x : Field). getD (column x c) i 0)
+recordAt c i = recordBy (λ (x : Field). get_or (column x c) i 0)
 
 abbrev pub layColumns : List Record → Columns → Columns
 layColumns kept = eachColumn (λ (x : Field) (old : List ℕ). lay (map (value x) kept) old)
@@ -69,7 +67,7 @@ abbrev pub lengths : Columns → List ℕ
 lengths c = map (λ (x : Field). length (column x c)) fields
 
 pub record Fit (room : ℕ) (c : Columns) : Type 0 where
-  pub lefts : room ≤ length (c .lefts)
-  pub rights : room ≤ length (c .rights)
-  pub parents : room ≤ length (c .parents)
-  pub taken : room ≤ length (c .taken)
+  pub lefts : room ≤ length c.lefts
+  pub rights : room ≤ length c.rights
+  pub parents : room ≤ length c.parents
+  pub taken : room ≤ length c.taken

@@ -1,10 +1,9 @@
 -- The scope's questions with known answers (§11).
-use mathlib.Core.List.{List, [], _∷_}
-use Prim.Native.Nat.{ℕ}
-use Rattle·congruence.specs.Congruence.{Listed}
-use Rattle·congruence.specs.Closing.{Closes}
-use Rattle·walk·specs.specs.Walk.{Question, questionOf, Record, leftsOf, rightsOf, Outcome, Walk}
-use Rattle·walk·specs.specs.Walk.Outcome.{Same, Different, Full}
+use Rattle.std.specs.Prelude.{List, [], ◌∷◌, ℕ}
+use Rattle.congruence.specs.Congruence.{Listed}
+use Rattle.congruence.specs.Closing.{Closes}
+use Rattle.walk.specs.Walk.{Question, questionOf, Record, leftsOf, rightsOf, Outcome, Walk}
+use Rattle.walk.specs.Walk.Outcome.{Same, Different, Full}
 
 abbrev pub A : ℕ → ℕ → Question
 A x y = questionOf 3 1 5 (2 ∷ 1 ∷ 4 ∷ []) x y

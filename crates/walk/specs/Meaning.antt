@@ -7,22 +7,20 @@
 --   Outgrows     the walk has to keep one more pair than a room allows
 --   Tells        a sequence that is accepted from exactly one of the two sets
 --   Covers       a list that has every set reached from either start
-use mathlib.Core.Path.{_≡_}
-use mathlib.Core.List.{List, List·Memᴰ}
-use Prim.Native.Nat.{ℕ, zero, suc, _+_, _*_, _≤_, _<_}
-use lib.ListN.{length, take}
-use Rattle·sets.specs.Sets.{Good}
-use Rattle·pattern.specs.Pattern.{Valid}
-use Rattle·pattern.specs.Language.{reach, accepts, Over}
-use Rattle·walk·specs.specs.Walk.{Question, Record, Outcome, keptOf, examinedOf, Walk}
-use Rattle·walk·specs.specs.Walk.Outcome.{Same, Different, Full}
-use Rattle·walk·specs.specs.Columns.{Columns, columnsOf, recordAt}
+use Rattle.std.specs.Prelude.{◌≡◌, ℕ, zero, suc, ◌+◌, ◌*◌, ◌≤◌, ◌<◌, length, take}
+use mathlib.Core.List.{List, Memᴰ}
+use Rattle.sets.specs.Sets.{Good}
+use Rattle.pattern.specs.Pattern.{Valid}
+use Rattle.pattern.specs.Language.{reach, accepts, Over}
+use Rattle.walk.specs.Walk.{Question, Record, Outcome, keptOf, examinedOf, Walk}
+use Rattle.walk.specs.Walk.Outcome.{Same, Different, Full}
+use Rattle.walk.specs.Columns.{Columns, columnsOf, recordAt}
 
 -- a valid pattern, and two sets of its states
 pub record Proper (Q : Question) : Type 0 where
-  pub valid : Valid (Q .pattern)
-  pub left-good : Good (Q .pattern .states) (Q .left)
-  pub right-good : Good (Q .pattern .states) (Q .right)
+  pub valid : Valid Q.pattern
+  pub left-good : Good Q.pattern.states Q.left
+  pub right-good : Good Q.pattern.states Q.right
 
 abbrev pub Settled : Outcome → Type 0
 Settled (Same kept e) = Unit {0}
@@ -31,24 +29,24 @@ Settled (Full kept e) = ⊥
 
 -- SAME: examined = 1 + k * kept; DIFFERENT: length never exceeds kept; FULL: kept = room
 abbrev pub ByAnswer : Question → ℕ → Outcome → Type 0
-ByAnswer Q room (Same kept examined) = examined ≡ 1 + Q .pattern .letters * length kept
+ByAnswer Q room (Same kept examined) = examined ≡ 1 + Q.pattern.letters * length kept
 ByAnswer Q room (Different kept examined word) = length word ≤ length kept
 ByAnswer Q room (Full kept examined) = length kept ≡ room
 
 -- and always: never more kept than the room, nor more examined than there are candidates
 pub record Counted (Q : Question) (room : ℕ) (o : Outcome) : Type 0 where
   pub fits : length (keptOf o) ≤ room
-  pub bounded : examinedOf o ≤ 1 + Q .pattern .letters * length (keptOf o)
+  pub bounded : examinedOf o ≤ 1 + Q.pattern.letters * length (keptOf o)
   pub by-answer : ByAnswer Q room o
 
 -- record 0 was candidate 0; any other was candidate 1 + (parent * k + letter)
 abbrev pub numberKept : ℕ → Columns → ℕ → ℕ
 numberKept k records zero = 0
-numberKept k records (suc i) = 1 + (recordAt records (suc i) .parent * k + recordAt records (suc i) .letter)
+numberKept k records (suc i) = 1 + ((recordAt records (suc i)).parent * k + (recordAt records (suc i)).letter)
 
 -- the first records as the room allows, and the candidate that was kept next found no room
 abbrev pub cutTo : Question → ℕ → List Record → Outcome
-cutTo Q room kept = Full (take room kept) (suc (numberKept (Q .pattern .letters) (columnsOf kept) room))
+cutTo Q room kept = Full (take room kept) (suc (numberKept Q.pattern.letters (columnsOf kept) room))
 
 -- where there is room for one more, the walk keeps more than the room allows
 pub record Outgrows (Q : Question) (room : ℕ) : Type 0 where
@@ -57,9 +55,9 @@ pub record Outgrows (Q : Question) (room : ℕ) : Type 0 where
   pub more : room < length (keptOf outcome)
 
 pub record Tells (Q : Question) (w : List ℕ) : Type 0 where
-  pub letters : Over (Q .pattern .letters) w
-  pub differ : accepts (Q .pattern) (Q .left) w ≡ accepts (Q .pattern) (Q .right) w → ⊥
+  pub letters : Over Q.pattern.letters w
+  pub differ : accepts Q.pattern Q.left w ≡ accepts Q.pattern Q.right w → ⊥
 
 pub record Covers (Q : Question) (sets : List ℕ) : Type 0 where
-  pub from-left : (w : List ℕ) → Over (Q .pattern .letters) w → List·Memᴰ (reach (Q .pattern) (Q .left) w) sets
-  pub from-right : (w : List ℕ) → Over (Q .pattern .letters) w → List·Memᴰ (reach (Q .pattern) (Q .right) w) sets
+  pub from-left : (w : List ℕ) → Over Q.pattern.letters w → Memᴰ (reach Q.pattern Q.left w) sets
+  pub from-right : (w : List ℕ) → Over Q.pattern.letters w → Memᴰ (reach Q.pattern Q.right w) sets

@@ -7,14 +7,11 @@
 --   Path, Word   the letters from the start to a record, and to a candidate
 --   Outcome      what the walk comes to; keptOf, wordOf and examinedOf are its parts
 --   Ends         the walk stops: rules 2 and 3, or no candidate is left
---   Walk         moves from the beginning, and an end: every valid question has one outcome (`walk-ends`, `walk-unique`)
-use mathlib.Core.Path.{_≡_}
-use mathlib.Core.List.{List, [], _∷_, _++_, map}
-use Prim.Native.Nat.{ℕ, zero, suc, _+_, _*_, _/_, _%_, _≤_, _<_}
-use lib.ListN.{length, getD}
-use Rattle·pattern.specs.Pattern.{Pattern, patternOf}
-use Rattle·pattern.specs.Language.{next, accepts}
-use Rattle·congruence.specs.Congruence.{Congruent, Listed}
+--   Walk         moves from the beginning, and an end: every valid question has one outcome (`Walk-Ends`, `walk-unique`)
+use Rattle.std.specs.Prelude.{◌≡◌, List, [], ◌∷◌, ◌++◌, map, ℕ, zero, suc, ◌+◌, ◌*◌, ◌/◌, ◌%◌, ◌≤◌, ◌<◌, length, get_or}
+use Rattle.pattern.specs.Pattern.{Pattern, patternOf}
+use Rattle.pattern.specs.Language.{next, accepts}
+use Rattle.congruence.specs.Congruence.{Congruent, Listed}
 
 pub record Question : Type 0 where
   pub pattern : Pattern
@@ -32,32 +29,32 @@ pub record Record : Type 0 where
   pub letter : ℕ
 
 abbrev pub leftsOf : List Record → List ℕ
-leftsOf kept = map (λ (r : Record). r .left) kept
+leftsOf kept = map (λ (r : Record). r.left) kept
 
 abbrev pub rightsOf : List Record → List ℕ
-rightsOf kept = map (λ (r : Record). r .right) kept
+rightsOf kept = map (λ (r : Record). r.right) kept
 
 abbrev pub parentsOf : List Record → List ℕ
-parentsOf kept = map (λ (r : Record). r .parent) kept
+parentsOf kept = map (λ (r : Record). r.parent) kept
 
 abbrev pub lettersOf : List Record → List ℕ
-lettersOf kept = map (λ (r : Record). r .letter) kept
+lettersOf kept = map (λ (r : Record). r.letter) kept
 
 -- candidate 0 is the starting pair; candidate 1 + e is the pair of successors of record e / k by letter e % k
 unfoldable pub candidate : Question → List Record → ℕ → Record
-candidate Q kept zero = record { left = Q .left; right = Q .right; parent = 0; letter = 0 }
+candidate Q kept zero = record { left = Q.left; right = Q.right; parent = 0; letter = 0 }
 candidate Q kept (suc e) =
-    let k = Q .pattern .letters in
+    let k = Q.pattern.letters in
     record {
-      left = next (Q .pattern) (getD (leftsOf kept) (e / k) 0) (e % k);
-      right = next (Q .pattern) (getD (rightsOf kept) (e / k) 0) (e % k);
+      left = next Q.pattern (get_or (leftsOf kept) (e / k) 0) (e % k);
+      right = next Q.pattern (get_or (rightsOf kept) (e / k) 0) (e % k);
       parent = e / k;
       letter = e % k;
     }
 
 -- how many candidates there are: the starting pair, and one for each kept record and letter
 abbrev pub candidates : Question → List Record → ℕ
-candidates Q kept = 1 + Q .pattern .letters * length kept
+candidates Q kept = 1 + Q.pattern.letters * length kept
 
 pub record Position : Type 0 where
   pub kept : List Record
@@ -68,42 +65,42 @@ begin = record { kept = []; examined = 0 }
 
 -- the candidate to be dealt with, and that there is one
 abbrev pub upcoming : Question → Position → Record
-upcoming Q p = candidate Q (p .kept) (p .examined)
+upcoming Q p = candidate Q p.kept p.examined
 
 abbrev pub Remains : Question → Position → Type 0
-Remains Q p = p .examined < candidates Q (p .kept)
+Remains Q p = p.examined < candidates Q p.kept
 
 -- congruent by the records kept so far
 abbrev pub Implied : List Record → Record → Type 0
-Implied kept r = Congruent (Listed (leftsOf kept) (rightsOf kept)) (r .left) (r .right)
+Implied kept r = Congruent (Listed (leftsOf kept) (rightsOf kept)) r.left r.right
 
 -- both sides accept the empty sequence, or neither does; where not, exactly one side accepts it
 abbrev pub Agrees : Question → Record → Type 0
-Agrees Q r = accepts (Q .pattern) (r .left) [] ≡ accepts (Q .pattern) (r .right) []
+Agrees Q r = accepts Q.pattern r.left [] ≡ accepts Q.pattern r.right []
 
 -- the position after the candidate has been skipped, and after it has been kept
 abbrev pub skip : Position → Position
-skip p = record { kept = p .kept; examined = suc (p .examined) }
+skip p = record { kept = p.kept; examined = suc p.examined }
 
 abbrev pub keep : Question → Position → Position
-keep Q p = record { kept = p .kept ++ (upcoming Q p ∷ []); examined = suc (p .examined) }
+keep Q p = record { kept = p.kept ++ (upcoming Q p ∷ []); examined = suc p.examined }
 
 -- 1. congruent by the records kept so far: skip
 -- 4. else (not congruent, no difference, room left) keep it
 pub data Moves (Q : Question) (room : ℕ) (p : Position) : Position → Type 0 where
-  skipped : Remains Q p → Implied (p .kept) (upcoming Q p) → Moves Q room p (skip p)
-  kept : Remains Q p → (Implied (p .kept) (upcoming Q p) → ⊥) → Agrees Q (upcoming Q p) → length (p .kept) < room → Moves Q room p (keep Q p)
+  skipped : Remains Q p → Implied p.kept (upcoming Q p) → Moves Q room p (skip p)
+  kept : Remains Q p → (Implied p.kept (upcoming Q p) → ⊥) → Agrees Q (upcoming Q p) → length p.kept < room → Moves Q room p (keep Q p)
 
 -- the letters from the start to record number i, by the columns of parents and letters; the path ends at record number 0
 pub data Path (parents letters : List ℕ) : ℕ → List ℕ → Type 0 where
   start : Path parents letters 0 []
-  further : {i : ℕ} {w : List ℕ} → 0 < i → i < length parents → Path parents letters (getD parents i 0) w
-      → Path parents letters i (w ++ (getD letters i 0 ∷ []))
+  further : {i : ℕ} {w : List ℕ} → 0 < i → i < length parents → Path parents letters (get_or parents i 0) w
+      → Path parents letters i (w ++ (get_or letters i 0 ∷ []))
 
 -- the letters from the start to candidate number e
 pub data Word (Q : Question) (kept : List Record) : ℕ → List ℕ → Type 0 where
   first : Word Q kept 0 []
-  later : {e : ℕ} {w : List ℕ} → Path (parentsOf kept) (lettersOf kept) (e / Q .pattern .letters) w → Word Q kept (suc e) (w ++ (e % Q .pattern .letters ∷ []))
+  later : {e : ℕ} {w : List ℕ} → Path (parentsOf kept) (lettersOf kept) (e / Q.pattern.letters) w → Word Q kept (suc e) (w ++ (e % Q.pattern.letters ∷ []))
 
 -- the records kept, the number examined, and for DIFFERENT the sequence
 pub data Outcome : Type 0 where
@@ -131,11 +128,11 @@ examinedOf (Full records examined) = examined
 -- 2. not congruent, and exactly one side accepts the empty sequence: stop, DIFFERENT
 -- 3. else as many records are kept as the room allows: stop, FULL
 pub data Ends (Q : Question) (room : ℕ) (p : Position) : Outcome → Type 0 where
-  same : (Remains Q p → ⊥) → Ends Q room p (Same (p .kept) (p .examined))
-  different : {w : List ℕ} → Remains Q p → (Implied (p .kept) (upcoming Q p) → ⊥) → (Agrees Q (upcoming Q p) → ⊥) → Word Q (p .kept) (p .examined) w
-      → Ends Q room p (Different (p .kept) (suc (p .examined)) w)
-  full : Remains Q p → (Implied (p .kept) (upcoming Q p) → ⊥) → Agrees Q (upcoming Q p) → room ≤ length (p .kept)
-      → Ends Q room p (Full (p .kept) (suc (p .examined)))
+  same : (Remains Q p → ⊥) → Ends Q room p (Same p.kept p.examined)
+  different : {w : List ℕ} → Remains Q p → (Implied p.kept (upcoming Q p) → ⊥) → (Agrees Q (upcoming Q p) → ⊥) → Word Q p.kept p.examined w
+      → Ends Q room p (Different p.kept (suc p.examined) w)
+  full : Remains Q p → (Implied p.kept (upcoming Q p) → ⊥) → Agrees Q (upcoming Q p) → room ≤ length p.kept
+      → Ends Q room p (Full p.kept (suc p.examined))
 
 -- some number of moves
 pub data Moved (Q : Question) (room : ℕ) : Position → Position → Type 0 where

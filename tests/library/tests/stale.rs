@@ -43,7 +43,7 @@ impl Repository {
             "# all: of them\nwalk:\nreport: walk\npressbadger: walk # above\n",
         );
         repository.has("crates/walk/src/lib.rt", "");
-        repository.has("crates/walk/proofs/run/Proof.antt", "");
+        repository.has("crates/walk/proofs/run/Answers.antt", "");
         repository.has("crates/report/src/lib.rt", "");
         repository.has("crates/pressbadger/src/lib.rt", "");
         repository.has(
@@ -127,7 +127,7 @@ fn a_library_older_than_what_it_is_made_of_is_not_linked() {
     let built = "target/staticlib";
     repository.stops(
         None,
-        "libpressbadger.a is not there: run `rt staticlib pressbadger`",
+        "libpressbadger.a is not there: run `bin/build pressbadger`",
     );
     repository.has_library(built, 1);
     repository.answers(None);
@@ -136,20 +136,20 @@ fn a_library_older_than_what_it_is_made_of_is_not_linked() {
     repository.has("crates/walk/src/lib.rt", "// changed");
     repository.stops(
         None,
-        "crates/walk/src/lib.rt: run `rt staticlib pressbadger`",
+        "crates/walk/src/lib.rt: run `bin/build pressbadger`",
     );
     repository.has_library(built, 1);
     repository.answers(None);
-    fs::remove_file(repository.root.join("crates/walk/proofs/run/Proof.antt"))
+    fs::remove_file(repository.root.join("crates/walk/proofs/run/Answers.antt"))
         .expect("it was there");
     repository.stops(
         None,
-        "crates/walk/proofs/run: run `rt staticlib pressbadger`",
+        "crates/walk/proofs/run: run `bin/build pressbadger`",
     );
     repository.has_library(built, 1);
     repository.answers(None);
     repository.has("crates.txt", "walk:\npressbadger: walk\n");
-    repository.stops(None, "crates.txt: run `rt staticlib pressbadger`");
+    repository.stops(None, "crates.txt: run `bin/build pressbadger`");
 }
 
 /// Catches a library of another interface whose answers are read as if they were this one's.

@@ -8,14 +8,14 @@ use std::sync::atomic::{AtomicU32, Ordering};
 use std::thread;
 use std::time::Duration;
 
-/// The program as `rt check` linked it.
+/// The program as `bin/build` left it.
 pub fn program(name: &str) -> PathBuf {
     let path = PathBuf::from(env!("CARGO_MANIFEST_DIR"))
         .join("../../target/bin")
         .join(name);
     assert!(
         path.is_file(),
-        "{} is not there: run `rt check {name}`",
+        "{} is not there: run `bin/build {name}`",
         path.display()
     );
     path

@@ -42,7 +42,7 @@ impl Repository {
         repository.has("crates/walk/src/lib.rt", "pub fn walk() {}\n");
         // A copy by another process: this one must not have an executable open for writing.
         let copied = Command::new("cp")
-            .arg(here("../../bin/compare"))
+            .args([here("../../bin/compare"), here("../../bin/build")])
             .arg(repository.root.join("bin"))
             .status();
         assert!(copied.expect("cp runs").success());
@@ -244,7 +244,6 @@ fn it_builds_where_something_has_changed_and_only_there() {
                     .current_dir(&repository.root)
                     .status();
                 assert!(copied.expect("cp runs").success());
-                repository.has_not("target/stamp/compare");
             }),
         ),
         ("no stamp", Box::new(remove("target/bin/compare.made-of"))),

@@ -1,0 +1,26 @@
+-- `evidence::check` makes the tests, looks for the starting pair, then tries the pairs.
+use mathlib.Core.Path.{sym}
+use Rattle.evidence.specs.Evidence.Checked.{refuses, not-started, started}
+use Rattle.evidence.proofs.Validity.{offer-valid}
+use Rattle.evidence.proofs.check.Goals as goal
+
+pub returns-in-Against : goal.returns-in-Against
+returns-in-Against c = refuses (sym c.in-Against.ensures)
+
+pub starts-requires : goal.starts-requires
+starts-requires c = ((offer-valid _).0 (sym c.in_default.ensures)).sides-match
+
+pub returns-then-not-starts : goal.returns-then-not-starts
+returns-then-not-starts c = not-started (sym c.in_default.ensures) (c.starts.ensures.complete c.if-not-starts.true)
+
+pub by_pairs-requires-clause-states_bound : goal.by_pairs-requires-clause-states_bound
+by_pairs-requires-clause-states_bound c = ((offer-valid _).0 (sym c.in_default.ensures)).pattern.sized.states-fit
+
+pub by_pairs-requires-clause-rows_len : goal.by_pairs-requires-clause-rows_len
+by_pairs-requires-clause-rows_len c = ((offer-valid _).0 (sym c.in_default.ensures)).pattern.tabled
+
+pub by_pairs-requires-clause-lefts_len : goal.by_pairs-requires-clause-lefts_len
+by_pairs-requires-clause-lefts_len c = ((offer-valid _).0 (sym c.in_default.ensures)).sides-match
+
+pub returns : goal.returns
+returns c = started (sym c.in_default.ensures) (c.starts.ensures.sound c.if-not-starts.false) c.by_pairs.ensures
