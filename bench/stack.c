@@ -42,6 +42,25 @@ static void check_records(void) { pb_check_records(21, 10, 0, rows, 210, x, y, r
 static void write_pattern(void) { length = pb_write_pattern(21, 10, 0, rows, 210, x, y, bytes, sizeof bytes).count; }
 static void read_pattern(void) { pb_read_pattern(bytes, length, read_rows, ROWS); }
 
+/* Two texts of 32 open parentheses each and 62 names together. */
+enum { DEPTH = 32 };
+static uint8_t text[DEPTH * 8];
+static size_t text_length;
+
+static void make_text(void) {
+    for (size_t open = 0; open < DEPTH; open++) {
+        const char *opens = open < DEPTH - 1 ? "E31 (" : "(1";
+        memcpy(text + text_length, opens, strlen(opens));
+        text_length += strlen(opens);
+    }
+    for (size_t open = 0; open < DEPTH; open++) {
+        text[text_length++] = ')';
+        text[text_length++] = '*';
+    }
+}
+
+static void expressions(void) { length = pb_expressions(text, text_length, text, text_length, read_rows, ROWS).states; }
+
 static void on_its_own_stack(void) { call(); }
 
 static size_t used(void (*which)(void)) {
@@ -66,12 +85,13 @@ int main(void) {
     } calls[] = {
         {"pb_compare", compare},       {"pb_compare_default", compare_default}, {"pb_compare_lists", compare_lists},
         {"pb_judge", judge},           {"pb_check", check},                     {"pb_check_records", check_records},
-        {"pb_write_pattern", write_pattern}, {"pb_read_pattern", read_pattern},
+        {"pb_write_pattern", write_pattern}, {"pb_read_pattern", read_pattern}, {"pb_expressions", expressions},
     };
     stack = malloc(STACK);
     if (stack == NULL)
         return 1;
     make_question();
+    make_text();
     size_t none = used(nothing);
     printf("| export | bytes of stack |\n|---|---|\n");
     for (size_t i = 0; i < sizeof calls / sizeof calls[0]; i++)

@@ -11,8 +11,9 @@
  *   - it answers, it ends, and it touches nothing but what it is lent;
  *   - it keeps no pointer, allocates nothing, has no state of its own, and may be called from
  *     several threads at once on different memory;
- *   - a refusal (an answer 10 to 16 or 20 to 22) changes no byte of what is lent, and every number
- *     returned with it is 0, but for the place of pb_read_pattern;
+ *   - a refusal (an answer 10 to 16, 20 to 22 or 30 to 32) changes no byte of what is lent, and every
+ *     number returned with it is 0, but for the place of pb_read_pattern, and the place and the text of
+ *     pb_expressions;
  *   - after any other answer, everything lent and not named below as written is unchanged.
  *
  * THE HOST'S DUTIES, on which the promises rest:
@@ -55,8 +56,12 @@ extern "C" {
 #define PB_MAX_ROWS 2048
 #define PB_LONGEST_FILE 20512
 
-/* Answers. 10 to 16 and 20 to 22 are refusals; where several apply, the order is 10, 11, 13, 16, 12, 14,
- * 15, and for pb_read_pattern the first fault by place. */
+/* The letters of a pattern made by pb_expressions, and the most parentheses open at once in a text. */
+#define PB_MAX_LETTERS 32
+#define PB_MAX_OPEN 32
+
+/* Answers. 10 to 16, 20 to 22 and 30 to 32 are refusals; where several apply, the order is 10, 11, 13, 16,
+ * 12, 14, 15, and for pb_read_pattern the first fault by place. pb_expressions has its own order. */
 enum {
     PB_SAME = 0,
     PB_DIFFERENT = 1,
@@ -75,12 +80,16 @@ enum {
     PB_BAD_LIST = 16,   /* evidence of over 1024 pairs, or two sides of different length */
     PB_CUT = 20,        /* the file ends before or within a number */
     PB_LONG = 21,       /* a number is badly written: padded, or over 64 bits */
-    PB_TAIL = 22        /* bytes after the last number */
+    PB_TAIL = 22,       /* bytes after the last number */
+    PB_SYNTAX = 30,     /* a name or a byte that no right text has there, or an unfinished text */
+    PB_TOO_MANY = 31,   /* no state is left for a name or for a start */
+    PB_TOO_DEEP = 32    /* a parenthesis opens, and 32 are open */
 };
 
 /* Whether an answer is a refusal. A number that a later version adds is not one for being high. */
 static inline int pb_is_refusal(uint8_t answer) {
-    return (answer >= PB_BAD_SIZE && answer <= PB_BAD_LIST) || (answer >= PB_CUT && answer <= PB_TAIL);
+    return (answer >= PB_BAD_SIZE && answer <= PB_BAD_LIST) || (answer >= PB_CUT && answer <= PB_TAIL) ||
+           (answer >= PB_SYNTAX && answer <= PB_TOO_DEEP);
 }
 
 /* A kept record: a pair of sets, and how the walk came to it: by `letter` from the pair of record
@@ -123,6 +132,17 @@ typedef struct {
     size_t count;
 } pb_written;
 
+typedef struct {
+    uint8_t answer; /* PB_DONE, or a refusal */
+    size_t states;
+    size_t letters;
+    uint64_t finals;
+    uint64_t x;
+    uint64_t y;
+    size_t place;
+    uint8_t text; /* 1 or 2 where that text has the fault, else 0 */
+} pb_expressed;
+
 /* The library's layout of what crosses: where the host's compiler has another, one of these arrays has
  * a negative length, and the host does not compile. */
 typedef char pb_size_t_has_8_bytes[sizeof(size_t) == 8 ? 1 : -1];
@@ -133,6 +153,7 @@ typedef char pb_judged_has_1_byte[sizeof(pb_judged) == 1 ? 1 : -1];
 typedef char pb_checked_has_16_bytes[sizeof(pb_checked) == 16 ? 1 : -1];
 typedef char pb_pattern_has_56_bytes[sizeof(pb_pattern) == 56 ? 1 : -1];
 typedef char pb_written_has_16_bytes[sizeof(pb_written) == 16 ? 1 : -1];
+typedef char pb_expressed_has_64_bytes[sizeof(pb_expressed) == 64 ? 1 : -1];
 
 /* The version of the library. Nothing is lent. */
 uint32_t pb_version(void);
@@ -212,6 +233,38 @@ pb_written pb_write_pattern(size_t states, size_t letters, uint64_t finals,
                             const uint64_t *rows, size_t rows_count,
                             uint64_t x, uint64_t y,
                             uint8_t *bytes, size_t bytes_count);
+
+/* Makes one pattern of two texts, such as READ (STABLE | CLOCKBACK READ)* CAP. The texts are bytes with no
+ * NUL at their end: of a C string pass strlen(text) as the count.
+ *
+ * A text is an alternation: sequences with | between them. A sequence is one factor or more, one after
+ * the other. A factor is a name, or an alternation in parentheses, and any number of marks after it:
+ *     *  any number of times, none too     +  once at least     ?  once or not at all
+ * The names: 1 takes the empty sequence alone, 0 takes no sequence, and the event of letter
+ *     0 READ    1 STABLE  2 DROP      3 DRYHOP  4 CRASH       5 WARM
+ *     6 CAP     7 VENT    8 TRANSFER  9 SAMPLE  10 CLOCKBACK  11 CLOCKON    12 E12 .. 31 E31
+ * takes that event. A name is the longest run of capitals and digits, so that READCAP, READ1, E1 and 10
+ * are no names. Any number of spaces (byte 20 hex, no other) may stand before and after a name or a sign.
+ *
+ *   PB_DONE       the pattern has 32 letters. State 0 starts the first text, and after it stands one state
+ *                 for each event name in it, in the order of the text; then the second text's start and
+ *                 its names. x and y are the sets of the two starts, and each accepts exactly the
+ *                 sequences that its text takes. rows[0 .. 32*states-1] are written; PB_MAX_ROWS entries
+ *                 are always enough. Pass 32*states as the rows_count of other calls.
+ *   a refusal     returns the text, 1 or 2, and the place in it, a byte from 0 or the text's length:
+ *     PB_SYNTAX     at the first name (by its first byte) or other byte that no right text could have
+ *                   there, an unknown name too; at the text's length where it ends too soon
+ *     PB_TOO_MANY   at the event name for which no state is left, of the 64 that both texts have; at 0 of
+ *                   the second text where none is left for its start
+ *     PB_TOO_DEEP   at the parenthesis that opens where 32 are open
+ *     PB_NO_ROOM    place 0, text 0: rows_count is less than 32*states. Both texts are right
+ *                 The first text's faults go before the second's, then the first by place, then by number.
+ * A text may be empty (it is refused), as long as it likes, and of any bytes.
+ * Stack: about 2,000 bytes, and 750 for each parenthesis that is open: about 26,000 at most. It does not
+ * grow with the texts. */
+pb_expressed pb_expressions(const uint8_t *one, size_t one_count,
+                            const uint8_t *two, size_t two_count,
+                            uint64_t *rows, size_t rows_count);
 
 #ifdef __cplusplus
 }

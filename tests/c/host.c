@@ -157,10 +157,55 @@ static void files(void) {
     check(p.answer == PB_NO_ROOM && p.place == 2, "two rows are too few");
 }
 
+static pb_expressed expressed(const char *one, const char *two, uint64_t *rows, size_t rows_count) {
+    return pb_expressions((const uint8_t *)one, strlen(one), (const uint8_t *)two, strlen(two), rows, rows_count);
+}
+
+static void refuses_text(const char *one, const char *two, uint8_t answer, uint8_t text, size_t place, const char *what) {
+    uint64_t rows[4 * PB_MAX_LETTERS] = {9, 9};
+    pb_expressed e = expressed(one, two, rows, 4 * PB_MAX_LETTERS);
+    check(e.answer == answer && e.text == text && e.place == place, what);
+    check(e.states == 0 && e.letters == 0 && e.finals == 0 && e.x == 0 && e.y == 0, "a refused text returns no pattern");
+    check(rows[0] == 9 && rows[1] == 9 && rows[2] == 0, "a refused text changes no row");
+}
+
+/* Catches texts or rows that are taken in another's place, and a pattern that other calls do not take. */
+static void makes_patterns(void) {
+    static pb_record records[PB_DEFAULT_ROOM];
+    static uint8_t sequence[PB_DEFAULT_ROOM];
+    static uint64_t rows[GUARD + PB_MAX_ROWS + GUARD];
+    for (size_t i = 0; i < sizeof rows / sizeof rows[0]; i++)
+        rows[i] = 0xAAAA + i;
+    pb_expressed e = expressed("READ STABLE* CAP", "READ (STABLE | CLOCKBACK READ)* CAP", rows + GUARD, PB_MAX_ROWS);
+    check(e.answer == PB_DONE && e.states == 10 && e.letters == PB_MAX_LETTERS && e.place == 0 && e.text == 0, "two texts become a pattern");
+    check(e.finals == (1 << 3 | 1 << 9) && e.x == 1 && e.y == 1 << 4, "their starts and their finals");
+    int quiet = 1;
+    for (size_t i = 0; i < sizeof rows / sizeof rows[0]; i++)
+        quiet &= (i >= GUARD && i < GUARD + 10 * PB_MAX_LETTERS) || rows[i] == 0xAAAA + i;
+    check(quiet, "its rows are written, and no other");
+    pb_compared c = pb_compare_default(e.states, e.letters, e.finals, rows + GUARD, e.states * e.letters, e.x, e.y,
+                                       records, PB_DEFAULT_ROOM, sequence, PB_DEFAULT_ROOM);
+    check(c.answer == PB_DIFFERENT && c.length == 4, "they differ after four events");
+    check(sequence[0] == 0 && sequence[1] == 10 && sequence[2] == 0 && sequence[3] == 6, "READ CLOCKBACK READ CAP");
+    refuses_text("READ CAPS", "1", PB_SYNTAX, 1, 5, "an unknown name");
+    refuses_text("READ", "CAP |", PB_SYNTAX, 2, 5, "an unfinished text");
+    refuses_text("", "", PB_SYNTAX, 1, 0, "an empty text");
+    refuses_text("READ CAP", "1 | DROP", PB_NO_ROOM, 0, 0, "four states of five");
+    refuses_text("1", "((((((((((((((((((((((((((((((((1", PB_SYNTAX, 2, 33, "32 parentheses that are not closed");
+    refuses_text("1", "(((((((((((((((((((((((((((((((((1", PB_TOO_DEEP, 2, 32, "33 parentheses");
+    char many[64 * 4 + 1] = "";
+    for (size_t i = 0; i < 64; i++)
+        strcat(many, "CAP ");
+    refuses_text(many, "1", PB_TOO_MANY, 1, 63 * 4, "64 names");
+    many[63 * 4] = '\0';
+    refuses_text(many, "1", PB_TOO_MANY, 2, 0, "63 names and a second start");
+}
+
 /* Catches a number that is taken for a refusal because it is high, and a refusal that is not taken for one. */
 static void tells_refusals(void) {
     static const uint8_t refusals[] = {PB_BAD_SIZE, PB_BAD_TABLE, PB_BAD_SET, PB_BAD_ROOM, PB_NO_ROOM,
-                                       PB_BAD_LETTER, PB_BAD_LIST, PB_CUT, PB_LONG, PB_TAIL};
+                                       PB_BAD_LETTER, PB_BAD_LIST, PB_CUT, PB_LONG, PB_TAIL,
+                                       PB_SYNTAX, PB_TOO_MANY, PB_TOO_DEEP};
     for (unsigned answer = 0; answer < 256; answer++)
         check(pb_is_refusal((uint8_t)answer) == (memchr(refusals, (int)answer, sizeof refusals) != NULL), "a refusal by its number");
 }
@@ -175,6 +220,7 @@ int main(void) {
     judges();
     checks();
     files();
+    makes_patterns();
     tells_refusals();
     printf("%d passed, %d failed\n", passed, failed);
     return failed == 0 ? 0 : 1;

@@ -39,6 +39,18 @@ pub struct PbWritten {
     pub count: usize,
 }
 
+#[repr(C)]
+pub struct PbExpressed {
+    pub answer: u8,
+    pub states: usize,
+    pub letters: usize,
+    pub finals: u64,
+    pub x: u64,
+    pub y: u64,
+    pub place: usize,
+    pub text: u8,
+}
+
 extern "C" {
     pub fn pb_version() -> u32;
 
@@ -147,4 +159,13 @@ extern "C" {
         bytes: *mut u8,
         bytes_count: usize,
     ) -> PbWritten;
+
+    pub fn pb_expressions(
+        one: *const u8,
+        one_count: usize,
+        two: *const u8,
+        two_count: usize,
+        rows: *mut u64,
+        rows_count: usize,
+    ) -> PbExpressed;
 }

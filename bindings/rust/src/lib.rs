@@ -14,6 +14,7 @@ compile_error!("the proved library is for x86-64");
 mod compare;
 mod evidence;
 mod exports;
+mod expressions;
 mod file;
 mod judge;
 mod pattern;
@@ -25,6 +26,7 @@ pub use compare::{
     MAX_ROOM,
 };
 pub use evidence::{check, check_records, Checked, MAX_PAIRS};
+pub use expressions::{expressions, Expressed, TextRefused, MAX_OPEN};
 pub use file::{read_pattern, write_pattern, PatternRead, LONGEST_FILE, MAX_ROWS};
 pub use judge::{judge, Judged};
 pub use pattern::{Pattern, MAX_LETTERS, MAX_STATES};

@@ -6,7 +6,7 @@ use core::fmt;
 /// Why a call is refused.
 ///
 /// Where several apply, the order is the scope's: 10, 11, 13, 16, 12, 14, 15. The file reader goes
-/// by place instead.
+/// by place instead, and texts by text, place and number.
 #[derive(Clone, Copy, Debug, PartialEq, Eq, Hash)]
 #[non_exhaustive]
 #[repr(u8)]
@@ -19,7 +19,7 @@ pub enum Refusal {
     BadSet = 12,
     /// The room is over 1024, or the list or the sequence buffer is shorter than the room.
     BadRoom = 13,
-    /// The reader's row buffer or the writer's byte buffer is too short.
+    /// The row buffer of the reader or of two texts, or the writer's byte buffer is too short.
     NoRoom = 14,
     /// A sequence has a letter that the pattern does not have.
     BadLetter = 15,
@@ -31,6 +31,12 @@ pub enum Refusal {
     Long = 21,
     /// There are bytes after the file's last number.
     Tail = 22,
+    /// No right text has that name or byte there, or the text is unfinished.
+    Syntax = 30,
+    /// No state is left for an event name, or for the second text's start.
+    TooMany = 31,
+    /// A parenthesis opens where as many are open as may be.
+    TooDeep = 32,
 }
 
 impl Refusal {
@@ -46,6 +52,9 @@ impl Refusal {
         Refusal::Cut,
         Refusal::Long,
         Refusal::Tail,
+        Refusal::Syntax,
+        Refusal::TooMany,
+        Refusal::TooDeep,
     ];
 
     /// The scope's number for it.
@@ -66,6 +75,9 @@ impl Refusal {
             Refusal::Cut => "CUT",
             Refusal::Long => "LONG",
             Refusal::Tail => "TAIL",
+            Refusal::Syntax => "SYNTAX",
+            Refusal::TooMany => "TOO-MANY",
+            Refusal::TooDeep => "TOO-DEEP",
         }
     }
 
@@ -84,6 +96,9 @@ impl Refusal {
             Refusal::Cut => "the file ends before or within a number",
             Refusal::Long => "a number of the file is badly written: padded, or over 64 bits",
             Refusal::Tail => "there are bytes after the file's last number",
+            Refusal::Syntax => "no right text goes on so",
+            Refusal::TooMany => "no state is left, of the 64 for both texts",
+            Refusal::TooDeep => "more than 32 parentheses are open",
         }
     }
 }
@@ -100,7 +115,7 @@ impl fmt::Display for Refusal {
     }
 }
 
-/// The error of every call: it was refused, and has changed nothing that it was lent.
+/// The error of a call: it was refused, and has changed nothing that it was lent.
 #[derive(Clone, Copy, Debug, PartialEq, Eq, Hash)]
 pub struct Refused {
     refusal: Refusal,
@@ -123,11 +138,11 @@ impl Refused {
         self.refusal.name()
     }
 
-    /// Where the fault is in the file that was read; nothing for the other calls.
+    /// Where the fault is in the file or in the text that was read; nothing for the other calls.
     ///
     /// It is the first byte of the number at fault. For CUT likewise, or the data's length if no
     /// byte of it came; for NO-ROOM the byte after the number of letters; for TAIL the first extra
-    /// byte.
+    /// byte. Of a text it is what [`TextRefused::place`](crate::TextRefused::place) says.
     pub const fn place(self) -> Option<usize> {
         self.place
     }

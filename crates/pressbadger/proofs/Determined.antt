@@ -13,6 +13,7 @@ use Rattle.comparison.proofs.CompareDetermined.{compare-determined}
 use Rattle.evidence.specs.Evidence.{Offer}
 use Rattle.evidence.proofs.Determined.{check-determined}
 use Rattle.patternfile.proofs.Determined.{reader-determined, writer-determined}
+use Rattle.expressions.proofs.Determined.{answer-determined}
 use Rattle.records.specs.declared.PbRecord.{PbRecord}
 use Rattle.records.specs.declared.answers.PbChecked.{PbChecked}
 use Rattle.records.specs.declared.answers.PbCompared.{PbCompared}
@@ -21,6 +22,8 @@ use Rattle.records.specs.Records.{layRecords, ComparedRecords}
 use Rattle.records.specs.Records.ComparedRecords.{refuses, walks}
 use Rattle.pressbadger.specs.declared.files.PbPattern.{PbPattern}
 use Rattle.pressbadger.specs.declared.files.PbWritten.{PbWritten}
+use Rattle.pressbadger.specs.declared.texts.PbExpressed.{PbExpressed}
+use Rattle.pressbadger.specs.Texts.{expressedAnswer, ExpressedTexts}
 use Rattle.pressbadger.specs.Files.{patternAnswer, ReadPattern, writtenAnswer, WrittenPattern}
 
 -- `pb_check`, and `pb_check_records` at the sides of the records
@@ -36,6 +39,12 @@ pub pb-write-determined : {P : Pattern} {x y : ℕ} {old : List ℕ} {r s : PbWr
 pb-write-determined {P} {x} {y} {old} {r} {s} {new} {new'} a b =
     let same = writer-determined P x y old a.written b.written new new' a.leaves b.leaves in
     (a.answers ∙ ap writtenAnswer same.0 ∙ sym b.answers, same.1)
+
+pub pb-expressions-determined : {one two old : List ℕ} {r s : PbExpressed} {new new' : List ℕ}
+    → ExpressedTexts one two old r new → ExpressedTexts one two old s new' → (r ≡ s) × (new ≡ new')
+pb-expressions-determined {one} {two} {old} {r} {s} {new} {new'} a b =
+    let same = answer-determined one two old new new' a.answer b.answer a.leaves b.leaves in
+    (a.answers ∙ ap expressedAnswer same.0 ∙ sym b.answers, same.1)
 
 pub pb-compare-lists-determined : {c : Call} {r s : PbCompared} {later later' : Lent} → ComparedLists c r later → ComparedLists c s later' → (r ≡ s) × (later ≡ later')
 pb-compare-lists-determined a b =

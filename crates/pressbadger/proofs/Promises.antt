@@ -17,6 +17,7 @@ use Rattle.lent.proofs.Laying.{take-lay, drop-lay}
 use Rattle.sets.specs.Sets.{Good}
 use Rattle.sets.specs.Rooms.{maxRoom}
 use Rattle.pattern.specs.Pattern.{Pattern, patternOf, Valid}
+use Rattle.pattern.specs.Language.{accepts, Over, SameLanguage}
 use Rattle.pattern.specs.Judge as Judge
 use Rattle.pattern.specs.Judge.{judged}
 use Rattle.pattern.specs.declared.Judged.{Judged}
@@ -55,6 +56,13 @@ use Rattle.patternfile.specs.declared.Written.{Written}
 use Rattle.patternfile.proofs.Returned.{read-number, read-honest, write-number, write-honest}
 use Rattle.patternfile.proofs.Longest.{file-short}
 use Rattle.patternfile.proofs.RoundTrip.{read-after-write, write-after-read}
+use Rattle.expressions.specs.Expressions.{Expr, Takes}
+use Rattle.expressions.specs.Texts.{Means}
+use Rattle.expressions.specs.Languages.{Speaks, Answered}
+use Rattle.expressions.specs.declared.Answer as Texts
+use Rattle.expressions.proofs.Faults.{one-meaning}
+use Rattle.expressions.proofs.Meaning.{expressions-honest}
+use Rattle.expressions.proofs.Room.{rows-enough}
 use Rattle.records.specs.declared.PbRecord.{PbRecord}
 use Rattle.records.specs.declared.answers.PbCompared.{PbCompared}
 use Rattle.records.specs.declared.answers.PbChecked.{PbChecked}
@@ -65,10 +73,12 @@ use Rattle.records.proofs.Offering.{offered, same-is-evidence}
 use Rattle.pressbadger.specs.declared.PbJudged.{PbJudged}
 use Rattle.pressbadger.specs.declared.files.PbPattern.{PbPattern}
 use Rattle.pressbadger.specs.declared.files.PbWritten.{PbWritten}
+use Rattle.pressbadger.specs.declared.texts.PbExpressed.{PbExpressed}
 use Rattle.pressbadger.specs.Checks.{offerFor}
 use Rattle.pressbadger.specs.Judges.{judgeAnswer}
 use Rattle.pressbadger.specs.Files.{patternAnswer, ReadPattern, writtenAnswer, WrittenPattern}
-use Rattle.pressbadger.specs.Promises.{SAME, DIFFERENT, FULL, PROVED, DONE, OneOf, compareRefusals, checkRefusals, judgeRefusals, readRefusals, writeRefusals, RoomFor, linesOf, ComparedMeans, LeftRecords, LeftLists, WalkedRecords, WalkedLists, SameRecords, LessRoom, CheckedMeans, JudgedMeans, donePattern, maxRows, longestFile, PatternMeans, doneWritten, WrittenMeans}
+use Rattle.pressbadger.specs.Texts.{expressedAnswer, ExpressedTexts}
+use Rattle.pressbadger.specs.Promises.{SAME, DIFFERENT, FULL, PROVED, DONE, NO-ROOM, OneOf, compareRefusals, checkRefusals, judgeRefusals, readRefusals, writeRefusals, RoomFor, linesOf, ComparedMeans, LeftRecords, LeftLists, WalkedRecords, WalkedLists, SameRecords, LessRoom, CheckedMeans, JudgedMeans, donePattern, maxRows, longestFile, PatternMeans, doneWritten, WrittenMeans, textRefusals, doneExpressed, patternLeft, ExpressedMeans}
 
 -- every refusal is 10 or more, so an answer with a lower number is none
 high : (numbers : List ℕ) {w : ℕ} → allFrom 10 numbers ≡ true → OneOf numbers w → 10 ≤ w
@@ -457,6 +467,68 @@ module _ (P : Pattern) (x y : ℕ) (old : List ℕ) where
   pub pb-write-enough : {r : PbWritten} {new : List ℕ} → WrittenPattern P x y old r new → longestFile ≤ length old
       → Valid P → Good P.states x → Good P.states y → r.answer ≡ DONE
   pb-write-enough k room v gx gy = (pb-write-means k).done.1 (record { valid = v; good-x = gx; good-y = gy; enough = omega (arith, file-short P x y v gx gy, room) })
+
+-- ---- pb_expressions
+
+module _ (one two old : List ℕ) where
+  expressed-means : (a : Texts.Answer) (new : List ℕ) → Answered one two old new a → ExpressedMeans one two old (expressedAnswer a) new
+  expressed-means (Texts.Answer.Done n finals x y) new k =
+      let h = expressions-honest one two old (Texts.Answer.Done n finals x y) new k in
+      record {
+        done = h.done;
+        returned = λ e. refl;
+        made = h.made;
+        refused = (λ m. absurd (omega (arith, high textRefusals refl m)), λ f. absurd (h.refused.1 f));
+        refused-by = λ w place text. (λ p. absurd (omega (arith, high textRefusals refl p.0)), λ p. absurd ((h.refused-by w place text).1 p).0);
+        quiet = λ m. absurd (omega (arith, high textRefusals refl m));
+      }
+  expressed-means (Texts.Answer.Refused number at text) new k =
+      let h = expressions-honest one two old (Texts.Answer.Refused number at text) new k in
+      record {
+        done = h.done;
+        returned = λ e. absurd (h.made e);
+        made = λ e. absurd (h.made e);
+        refused = (λ m. h.refused.0 tt, λ f. h.among tt);
+        refused-by = λ w at' text'. (
+          λ (m, e, d, c). (h.refused-by w at' text').0 (tt, e, d, c),
+          λ p. let (i, e, d, c) = (h.refused-by w at' text').1 p in (h.among i, e, d, c),
+        );
+        quiet = λ m. (refl, h.quiet tt);
+      }
+
+  pub pb-expressions-means : {r : PbExpressed} {new : List ℕ} → ExpressedTexts one two old r new → ExpressedMeans one two old r new
+  pb-expressions-means {new = new} k = rw k.answers (expressed-means k.answer new k.leaves)
+
+  -- each start accepts exactly the sequences that the expression of its text takes, and a text has one expression
+  pub pb-expressions-language : {r : PbExpressed} {new : List ℕ} → ExpressedTexts one two old r new → r.answer ≡ DONE
+      → (e f : Expr) → Means one e → Means two f → (w : List ℕ) → Over 32 w
+      → ((accepts (patternLeft r new) r.x w ≡ true) ↔ Takes e w) × ((accepts (patternLeft r new) r.y w ≡ true) ↔ Takes f w)
+  pb-expressions-language {r} {new} k done e f p q w o =
+      let means = pb-expressions-means k in
+      let back = means.returned done in
+      let speaks = (means.made done).speaks in
+      (of r.x one e p speaks.first-speaks back, of r.y two f q speaks.second-speaks back)
+    where
+      of : (set : ℕ) (text : List ℕ) (e : Expr) → Means text e → Speaks (patternOf r.states 32 r.finals (take (r.states * 32) new)) set text
+          → r ≡ doneExpressed r.states r.finals r.x r.y → (accepts (patternLeft r new) set w ≡ true) ↔ Takes e w
+      of set text e p speaks back =
+          let letters : r.letters ≡ 32 = ap (λ (z : PbExpressed). z.letters) back in
+          rw letters (subst (λ (z : Expr). (accepts (patternOf r.states 32 r.finals (take (r.states * 32) new)) set w ≡ true) ↔ Takes z w) (one-meaning text speaks.tree e speaks.means p) (speaks.language w o))
+
+  -- what SAME says of the two starts, it says of the two expressions
+  pub pb-expressions-same : {r : PbExpressed} {new : List ℕ} → ExpressedTexts one two old r new → r.answer ≡ DONE
+      → (e f : Expr) → Means one e → Means two f → SameLanguage (patternLeft r new) r.x r.y → (w : List ℕ) → Over 32 w → Takes e w ↔ Takes f w
+  pb-expressions-same {r} k done e f p q same w o =
+      let (a, b) = pb-expressions-language k done e f p q w o in
+      let letters : r.letters ≡ 32 = ap (λ (z : PbExpressed). z.letters) ((pb-expressions-means k).returned done) in
+      let alike = same.words w (subst (λ (n : ℕ). Over n w) (sym letters) o) in
+      (λ t. b.0 (sym alike ∙ a.1 t), λ t. a.0 (alike ∙ b.1 t))
+
+  -- a buffer for the most rows is always enough
+  pub pb-expressions-enough : {r : PbExpressed} {new : List ℕ} → ExpressedTexts one two old r new → maxRows ≤ length old → r.answer ≡ NO-ROOM → ⊥
+  pb-expressions-enough {r} k room e =
+      let m : OneOf textRefusals r.answer = Memᴰ.tail (Memᴰ.tail (Memᴰ.tail (Memᴰ.head e))) in
+      rows-enough (((pb-expressions-means k).refused-by r.answer r.place r.text).0 (m, refl, refl, refl)) room e
 
 -- ---- files go round
 

@@ -3,4 +3,5 @@ pub mod Compares
 pub mod Checks
 pub mod Judges
 pub mod Files
+pub mod Texts
 pub mod Promises

@@ -9,15 +9,15 @@
 --                       the records, the sequence and the counts are those of the walk
 --   SameRecords, LessRoom
 --                       what one room says of another
---   CheckedMeans, JudgedMeans, PatternMeans, WrittenMeans
---                       what a PbChecked, a PbJudged, a PbPattern, a PbWritten mean; of the last two: and what is left in the buffer
+--   CheckedMeans, JudgedMeans, PatternMeans, WrittenMeans, ExpressedMeans
+--                       what a PbChecked, a PbJudged, a PbPattern, a PbWritten, a PbExpressed mean; of the last three: and what is left in the buffer
 use Rattle.std.specs.Prelude.{◌≡◌, ◌↔◌, true, false, ℕ, suc, ◌+◌, ◌*◌, ◌≤◌, ◌<◌, length, take, drop}
 use mathlib.Core.List.{List, [], ◌∷◌, map, Memᴰ}
 use Rattle.verdict.specs.Lines.{Lines, Applies}
 use Rattle.verdict.specs.Lines.Lines.{none, line}
 use Rattle.lent.specs.Lent.{lay}
 use Rattle.sets.specs.Rooms.{maxRoom}
-use Rattle.pattern.specs.Pattern.{Pattern}
+use Rattle.pattern.specs.Pattern.{Pattern, patternOf}
 use Rattle.pattern.specs.Language.{accepts, SameLanguage}
 use Rattle.pattern.specs.Refusals.{MasksGood, shapeLines}
 use Rattle.pattern.specs.Judge.{Judgeable, judgeLines}
@@ -33,6 +33,8 @@ use Rattle.patternfile.specs.PatternFile.{fileBytes, patternFormat}
 use Rattle.patternfile.specs.Writer.{Allowed}
 use Rattle.patternfile.specs.Refusals.{RefusedAt, writeLines}
 use Rattle.patternfile.specs.Meaning.{Readable}
+use Rattle.expressions.specs.Answers.{Refusal}
+use Rattle.expressions.specs.Meaning.{Expressible, Made}
 use Rattle.records.specs.declared.PbRecord.{PbRecord}
 use Rattle.records.specs.declared.answers.PbCompared.{PbCompared}
 use Rattle.records.specs.declared.answers.PbChecked.{PbChecked}
@@ -41,6 +43,7 @@ use Rattle.records.specs.Records.{written}
 use Rattle.pressbadger.specs.declared.PbJudged.{PbJudged}
 use Rattle.pressbadger.specs.declared.files.PbPattern.{PbPattern}
 use Rattle.pressbadger.specs.declared.files.PbWritten.{PbWritten}
+use Rattle.pressbadger.specs.declared.texts.PbExpressed.{PbExpressed}
 
 -- ---- the numbers
 
@@ -98,6 +101,15 @@ LONG = 21
 abbrev pub TAIL : ℕ
 TAIL = 22
 
+abbrev pub SYNTAX : ℕ
+SYNTAX = 30
+
+abbrev pub TOO-MANY : ℕ
+TOO-MANY = 31
+
+abbrev pub TOO-DEEP : ℕ
+TOO-DEEP = 32
+
 abbrev pub OneOf : List ℕ → ℕ → Type 0
 OneOf numbers w = Memᴰ w numbers
 
@@ -116,6 +128,9 @@ readRefusals = BAD-SIZE ∷ BAD-SET ∷ NO-ROOM ∷ CUT ∷ LONG ∷ TAIL ∷ []
 
 abbrev pub writeRefusals : List ℕ
 writeRefusals = BAD-SIZE ∷ BAD-TABLE ∷ BAD-SET ∷ NO-ROOM ∷ []
+
+abbrev pub textRefusals : List ℕ
+textRefusals = SYNTAX ∷ TOO-MANY ∷ TOO-DEEP ∷ NO-ROOM ∷ []
 
 -- ---- the comparison: pb_compare and pb_compare_default over a list of records, pb_compare_lists over columns
 
@@ -258,3 +273,27 @@ pub record WrittenMeans (P : Pattern) (x y : ℕ) (old : List ℕ) (r : PbWritte
   pub refused : OneOf writeRefusals r.answer ↔ (Allowed P x y (length old) → ⊥)
   pub refused-by : (w : ℕ) → (OneOf writeRefusals r.answer × (r.answer ≡ w)) ↔ Applies (writeLines P x y (length old)) w
   pub quiet : OneOf writeRefusals r.answer → (r ≡ refusedWritten r.answer) × (new ≡ old)
+
+-- ---- two texts made into one pattern: pb_expressions
+
+abbrev pub doneExpressed : ℕ → ℕ → ℕ → ℕ → PbExpressed
+doneExpressed n finals x y = record { answer = DONE; states = n; letters = 32; finals = finals; x = x; y = y; place = 0; text = 0 }
+
+abbrev pub refusedExpressed : ℕ → ℕ → ℕ → PbExpressed
+refusedExpressed w place text = record { answer = w; states = 0; letters = 0; finals = 0; x = 0; y = 0; place = place; text = text }
+
+-- the pattern that is left: its numbers, and the first rows of the buffer
+abbrev pub patternLeft : PbExpressed → List ℕ → Pattern
+patternLeft r new = patternOf r.states r.letters r.finals (take (r.states * r.letters) new)
+
+pub record ExpressedMeans (one two old : List ℕ) (r : PbExpressed) (new : List ℕ) : Type 0 where
+  -- DONE: exactly where both texts are right, nothing is wrong with either, and the rows have room; the pattern is that of the position
+  -- construction, and each of its starts accepts exactly the sequences that its text takes
+  pub done : (r.answer ≡ DONE) ↔ Expressible one two (length old)
+  pub returned : r.answer ≡ DONE → r ≡ doneExpressed r.states r.finals r.x r.y
+  pub made : r.answer ≡ DONE → Made one two old new r.states r.finals r.x r.y
+  -- any other is refused: the first text goes first, then by place, then by number, and NO-ROOM last; nothing is changed
+  pub refused : OneOf textRefusals r.answer ↔ (Expressible one two (length old) → ⊥)
+  pub refused-by : (w place text : ℕ)
+      → (OneOf textRefusals r.answer × (r.answer ≡ w) × (r.place ≡ place) × (r.text ≡ text)) ↔ Refusal one two old w place text
+  pub quiet : OneOf textRefusals r.answer → (r ≡ refusedExpressed r.answer r.place r.text) × (new ≡ old)

@@ -9,6 +9,7 @@ use crate::probes::{self, Probed};
 use reference::answers::DONE;
 use reference::congruence::Pair;
 use reference::evidence::Check;
+use reference::expressions::Expressing;
 use reference::file::{Reading, Writing};
 use reference::pattern::Pattern;
 use reference::questions::Question;
@@ -187,6 +188,35 @@ pub fn write_pattern(pattern: &Pattern, x: u64, y: u64, byte_buffer_length: usiz
     Writing {
         answer: u64::from(written.answer),
         bytes: bytes.written(0..written.count).to_vec(),
+    }
+}
+
+/// What two texts become, with a row buffer of the given length. All numbers are taken over as they
+/// come, on a refusal too.
+pub fn expressions(one: &[u8], two: &[u8], row_buffer_length: usize) -> Expressing {
+    let (one, two) = (Lent::holding(one), Lent::holding(two));
+    let mut rows = Lent::blank(row_buffer_length);
+    let found = host::expressions(one.get(), two.get(), rows.get_mut());
+    one.assert_unchanged();
+    two.assert_unchanged();
+    let done = u64::from(found.answer) == DONE;
+    let count = if done {
+        found.states * found.letters
+    } else {
+        0
+    };
+    Expressing {
+        answer: u64::from(found.answer),
+        place: found.place as u64,
+        text: u64::from(found.text),
+        pattern: Pattern {
+            states: found.states as u64,
+            letters: found.letters as u64,
+            finals: found.finals,
+            rows: rows.written(0..count).to_vec(),
+        },
+        x: found.x,
+        y: found.y,
     }
 }
 

@@ -3,7 +3,8 @@
 //! A file is a row of blocks with an empty line between them; lines that begin
 //! with `#` say what the case below would catch. The first line of a block is the
 //! case's name, each other line a key and its words. A number is decimal, `2^63`
-//! or `max` for 2^64-1; `0*64` is 64 numbers of 0. Bytes are in hex.
+//! or `max` for 2^64-1; `0*64` is 64 numbers of 0. Bytes are in hex. A text stands between
+//! quotation marks.
 
 use reference::answers::NAMES;
 use reference::congruence::Pair;
@@ -110,6 +111,16 @@ impl Case {
             .collect()
     }
 
+    /// The text of a key, without its quotation marks.
+    pub fn text(&self, key: &str) -> &[u8] {
+        let quoted = self.fields.get(key).map_or("", String::as_str);
+        let text = quoted
+            .strip_prefix('"')
+            .and_then(|text| text.strip_suffix('"'));
+        let text = text.unwrap_or_else(|| panic!("{}: {key} is no text", self.name));
+        text.as_bytes()
+    }
+
     /// The pairs of a key: left and right of each.
     pub fn pairs(&self, key: &str) -> Vec<Pair> {
         let numbers = self.numbers(key);
@@ -181,7 +192,7 @@ mod tests {
     #[test]
     fn blocks_are_read_with_all_their_words() {
         let text =
-            "# why\nfirst\na 1 2^63 max\nb 5*3  7\n\n\n# why\nsecond\nc 0a ff*2\nd BAD-SET\ne";
+            "# why\nfirst\na 1 2^63 max\nb 5*3  7\n\n\n# why\nsecond\nc 0a ff*2\nd BAD-SET\ne\nf \" A  B \"";
         let [first, second] = &parse(text)[..] else {
             panic!("two cases");
         };
@@ -192,5 +203,6 @@ mod tests {
         assert_eq!(second.answer("d"), 12);
         assert_eq!(second.numbers("e"), []);
         assert!(second.has("e") && !second.has("a"));
+        assert_eq!(second.text("f"), b" A  B ");
     }
 }

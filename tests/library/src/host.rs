@@ -68,10 +68,32 @@ pub struct PbWritten {
     pub count: usize,
 }
 
+/// The answer to `pb_expressions`.
+#[repr(C)]
+#[derive(Clone, Copy, Debug, PartialEq, Eq)]
+pub struct PbExpressed {
+    /// DONE or a refusal; all else but place and text is 0 on a refusal.
+    pub answer: u8,
+    /// n.
+    pub states: usize,
+    /// k.
+    pub letters: usize,
+    /// The finals.
+    pub finals: u64,
+    /// X.
+    pub x: u64,
+    /// Y.
+    pub y: u64,
+    /// The place of the fault, 0 on DONE.
+    pub place: usize,
+    /// The text of the fault, 0 on DONE.
+    pub text: u8,
+}
+
 mod exports {
     //! As `crates/pressbadger/src` declares them. A lent slice goes over as a pointer and a count.
 
-    use super::{PbChecked, PbCompared, PbJudged, PbPattern, PbWritten, RecordBytes};
+    use super::{PbChecked, PbCompared, PbExpressed, PbJudged, PbPattern, PbWritten, RecordBytes};
 
     extern "C" {
         pub fn pb_version() -> u32;
@@ -173,6 +195,14 @@ mod exports {
             bytes: *mut u8,
             bytes_count: usize,
         ) -> PbWritten;
+        pub fn pb_expressions(
+            one: *const u8,
+            one_count: usize,
+            two: *const u8,
+            two_count: usize,
+            rows: *mut u64,
+            rows_count: usize,
+        ) -> PbExpressed;
     }
 }
 
@@ -384,6 +414,21 @@ pub fn write_pattern(
             y,
             bytes.as_mut_ptr(),
             bytes.len(),
+        )
+    }
+}
+
+/// Makes two texts into one pattern, in the rows lent.
+pub fn expressions(one: &[u8], two: &[u8], rows: &mut [u64]) -> PbExpressed {
+    // SAFETY: the texts are valid for reads and the rows for writes of their counts.
+    unsafe {
+        exports::pb_expressions(
+            one.as_ptr(),
+            one.len(),
+            two.as_ptr(),
+            two.len(),
+            rows.as_mut_ptr(),
+            rows.len(),
         )
     }
 }

@@ -134,18 +134,12 @@ fn a_library_older_than_what_it_is_made_of_is_not_linked() {
     repository.has("crates/report/src/lib.rt", "// not of the library");
     repository.answers(None);
     repository.has("crates/walk/src/lib.rt", "// changed");
-    repository.stops(
-        None,
-        "crates/walk/src/lib.rt: run `bin/build pressbadger`",
-    );
+    repository.stops(None, "crates/walk/src/lib.rt: run `bin/build pressbadger`");
     repository.has_library(built, 1);
     repository.answers(None);
     fs::remove_file(repository.root.join("crates/walk/proofs/run/Answers.antt"))
         .expect("it was there");
-    repository.stops(
-        None,
-        "crates/walk/proofs/run: run `bin/build pressbadger`",
-    );
+    repository.stops(None, "crates/walk/proofs/run: run `bin/build pressbadger`");
     repository.has_library(built, 1);
     repository.answers(None);
     repository.has("crates.txt", "walk:\npressbadger: walk\n");

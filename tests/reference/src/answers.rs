@@ -17,17 +17,20 @@ answers! {
     REJECT = 4, "REJECT", "The judged sequence is not accepted.";
     PROVED = 5, "PROVED", "The evidence holds.";
     NOT_PROVED = 6, "NOT-PROVED", "The evidence does not hold.";
-    DONE = 7, "DONE", "The file has been read or written.";
+    DONE = 7, "DONE", "The file has been read or written, or the pattern made.";
     BAD_SIZE = 10, "BAD-SIZE", "n or k is outside its range.";
     BAD_TABLE = 11, "BAD-TABLE", "The rows lent are not n*k in number.";
     BAD_SET = 12, "BAD-SET", "A mask has a bit n or above.";
     BAD_ROOM = 13, "BAD-ROOM", "The room is over 1024, or a lent buffer is shorter than the room.";
-    NO_ROOM = 14, "NO-ROOM", "The row buffer (reader) or byte buffer (writer) is too short.";
+    NO_ROOM = 14, "NO-ROOM", "The row buffer (reader, expressions) or byte buffer (writer) is too short.";
     BAD_LETTER = 15, "BAD-LETTER", "A sequence has a letter k or above.";
     BAD_LIST = 16, "BAD-LIST", "The evidence has over 1024 pairs, or sides of different length.";
     CUT = 20, "CUT", "The file ends before or within a number.";
     LONG = 21, "LONG", "A number is badly written.";
     TAIL = 22, "TAIL", "There are bytes after the last number.";
+    SYNTAX = 30, "SYNTAX", "No right text has that name or byte there.";
+    TOO_MANY = 31, "TOO-MANY", "No state is left for a name or a start.";
+    TOO_DEEP = 32, "TOO-DEEP", "32 parentheses are open, and one more opens.";
 }
 
 /// The lowest refusal: refusals are 10 and up.

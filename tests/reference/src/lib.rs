@@ -1,8 +1,9 @@
 //! The rules of the scope written plainly, as a yardstick for the library and the program.
 //!
-//! In reading order: the rules themselves (`answers` to `report`), then an
-//! independent judge of equivalence (`subsets`), then what tests draw their
-//! questions from (`random`, `questions`, `damage`) and how much they run (`rounds`).
+//! In reading order: the rules themselves (`answers` to `expressions`), then
+//! independent judges of equivalence (`subsets`) and of what an expression takes
+//! (`derivatives`), then what tests draw their questions from (`random`, `questions`,
+//! `damage`, `phrases`) and how much they run (`rounds`).
 //!
 //! Nothing here is proved and nothing is made fast. Every function is total:
 //! whatever numbers come in, an answer goes out.
@@ -24,9 +25,15 @@ pub mod numbers;
 pub mod events;
 pub mod report;
 
+pub mod expressions;
+pub mod positions;
+pub mod texts;
+
+pub mod derivatives;
 pub mod subsets;
 
 pub mod damage;
+pub mod phrases;
 pub mod questions;
 pub mod random;
 pub mod rounds;

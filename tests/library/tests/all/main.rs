@@ -13,6 +13,7 @@ mod sets;
 mod automata;
 mod comparison;
 mod evidence;
+mod expressions;
 mod files;
 mod judge;
 mod rooms;

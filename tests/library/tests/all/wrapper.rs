@@ -3,12 +3,14 @@
 use crate::draw::{any_question, small_question};
 use library::calls::{self, Lengths};
 use library::{cases, rounds::rounds};
-use pressbadger::{Checked, Columns, Compared, Judged, Refusal, Refused};
+use pressbadger::{Checked, Columns, Compared, Judged, Refusal, Refused, TextRefused};
 use reference::answers::*;
 use reference::congruence::Pair;
 use reference::evidence::Check;
+use reference::expressions::Expressing;
 use reference::file::{Reading, Writing};
 use reference::pattern::Pattern;
+use reference::phrases::{phrase, text};
 use reference::questions::Question;
 use reference::random::Random;
 use reference::walk::{Comparison, Record};
@@ -203,6 +205,32 @@ fn assert_write(question: &Question, byte_buffer_length: usize) -> Vec<u8> {
     wanted.bytes
 }
 
+fn assert_expressions(one: &[u8], two: &[u8], row_buffer_length: usize) {
+    let mut rows = vec![0; row_buffer_length];
+    let found = match pressbadger::expressions(one, two, &mut rows) {
+        Ok(made) => Expressing {
+            answer: DONE,
+            place: 0,
+            text: 0,
+            pattern: Pattern {
+                states: made.pattern.states as u64,
+                letters: made.pattern.letters as u64,
+                finals: made.pattern.finals,
+                rows: made.pattern.rows.to_vec(),
+            },
+            x: made.x,
+            y: made.y,
+        },
+        Err(refused) => Expressing {
+            answer: refused.number().into(),
+            place: refused.place().unwrap_or(0) as u64,
+            text: refused.text().unwrap_or(0).into(),
+            ..Expressing::default()
+        },
+    };
+    assert_eq!(found, calls::expressions(one, two, row_buffer_length));
+}
+
 /// Catches an argument that is passed in another's place, and a number that becomes another answer.
 #[test]
 fn the_wrapper_answers_the_named_questions_as_the_exports_do() {
@@ -234,6 +262,12 @@ fn the_wrapper_answers_the_named_questions_as_the_exports_do() {
     for case in cases::load("write.txt", &keys, &["bytes"]) {
         assert_write(&case.question(), case.number("room") as usize);
     }
+    let optional = ["states", "finals", "starts", "rows", "place", "text"];
+    for case in cases::load("expressions.txt", &["one", "two", "answer"], &optional) {
+        for rows in [0, 100, 2048] {
+            assert_expressions(case.text("one"), case.text("two"), rows);
+        }
+    }
 }
 
 /// Catches what no named question shows.
@@ -255,6 +289,14 @@ fn the_wrapper_answers_random_questions_as_the_exports_do() {
         assert_compare(&question, random.below(20), random.below(40) as usize);
         let bytes = assert_write(&question, random.between(5, 30_000) as usize);
         assert_read(&bytes, random.between(1, 2048) as usize);
+        let [one, mut two] = [(); 2].map(|()| {
+            let names = random.between(1, 9);
+            let tree = phrase(&mut random, names, &[0, 6, 31]);
+            text(&mut random, &tree)
+        });
+        assert_expressions(&one, &two, random.between(0, 700) as usize);
+        two.truncate(random.below(two.len() as u64) as usize);
+        assert_expressions(&one, &two, 2048);
     }
 }
 
@@ -294,6 +336,91 @@ fn a_refusal_is_an_error_that_says_what_is_wrong_and_where() {
     said.sort();
     said.dedup_by_key(|words| words.split_once(": ").map(|(_, words)| words.to_owned()));
     assert_eq!(said.len(), Refusal::ALL.len());
+}
+
+/// The refusal of two texts.
+fn text_refused<'texts>(one: &'texts [u8], two: &'texts [u8], rows: usize) -> TextRefused<'texts> {
+    let mut rows = vec![0; rows];
+    let expressed = pressbadger::expressions(one, two, &mut rows);
+    expressed.expect_err("it is refused")
+}
+
+/// Catches a caret that stands under another byte than the wrong one, the other text, and a picture
+/// that is spoiled by bytes that are no characters.
+#[test]
+fn a_refused_text_is_shown_with_a_caret_under_the_wrong_byte() {
+    let syntax = "SYNTAX (30): no right text goes on so, at byte";
+    let table: [(&[u8], &[u8], String); 8] = [
+        (
+            b"READ (STABLE | CLOCKBAK READ)* CAP",
+            b"READ",
+            format!("{syntax} 15 of text 1\n  READ (STABLE | CLOCKBAK READ)* CAP\n                 ^"),
+        ),
+        (
+            b"CAP",
+            b"READ (| CAP)",
+            format!("{syntax} 6 of text 2\n  READ (| CAP)\n        ^"),
+        ),
+        (b"", b"", format!("{syntax} 0 of text 1\n  \n  ^")),
+        (
+            b"READ (",
+            b"",
+            format!("{syntax} 6 of text 1\n  READ (\n        ^"),
+        ),
+        (
+            b"READ\t\xc3\xa9",
+            b"",
+            format!("{syntax} 4 of text 1\n  READ\u{fffd}\u{fffd}\u{fffd}\n      ^"),
+        ),
+        (
+            &b"((((".repeat(9),
+            b"",
+            format!(
+                "TOO-DEEP (32): more than 32 parentheses are open, at byte 32 of text 1\n  {}\n  {}^",
+                "(".repeat(36),
+                " ".repeat(32)
+            ),
+        ),
+        (
+            &b"CAP ".repeat(64),
+            b"",
+            format!(
+                "TOO-MANY (31): no state is left, of the 64 for both texts, at byte 252 of text 1\n  ..{}\n  {}^",
+                "CAP ".repeat(11),
+                " ".repeat(42)
+            ),
+        ),
+        (
+            &[b"x", &b"CAP ".repeat(64)[..]].concat(),
+            b"",
+            format!("{syntax} 0 of text 1\n  x{}C..\n  ^", "CAP ".repeat(7)),
+        ),
+    ];
+    for (one, two, wanted) in table {
+        assert_eq!(text_refused(one, two, 2048).to_string(), wanted);
+    }
+    let words = "NO-ROOM (14): the buffer is too short for what is to be written into it";
+    let refused = text_refused(b"READ", b"CAP", 127);
+    assert_eq!(refused.to_string(), words);
+    let parts = (refused.refusal(), refused.text(), refused.place());
+    assert_eq!(parts, (Refusal::NoRoom, None, None));
+}
+
+/// Catches a refusal that loses its number, name or place where the texts cannot be handed on with it.
+#[test]
+fn a_refused_text_is_handed_on_without_the_text() {
+    fn handed_on(one: &[u8]) -> Result<usize, Box<dyn std::error::Error>> {
+        let mut rows = [0; 2048];
+        let made = pressbadger::expressions(one, b"1", &mut rows).map_err(Refused::from)?;
+        Ok(made.pattern.states)
+    }
+    assert_eq!(handed_on(b"READ CAP").expect("it is right"), 4);
+    let error = handed_on(b"READ CAPS").expect_err("there is no such name");
+    let words = "SYNTAX (30): no right text goes on so, at byte 5";
+    assert_eq!(error.to_string(), words);
+    let refused: Refused = *error.downcast().expect("it is the wrapper's own");
+    let parts = (refused.number(), refused.name(), refused.place());
+    assert_eq!(parts, (30, "SYNTAX", Some(5)));
 }
 
 /// Catches an answer with another number than the scope's.
@@ -340,6 +467,7 @@ fn the_limits_are_the_scopes() {
     assert_eq!(pressbadger::MAX_PAIRS, reference::evidence::MAX_PAIRS);
     assert_eq!(pressbadger::LONGEST_FILE, reference::file::LONGEST_FILE);
     assert_eq!(pressbadger::MAX_ROWS, 64 * 32);
+    assert_eq!(pressbadger::MAX_OPEN, reference::texts::MAX_OPEN);
 }
 
 /// Catches a wrapper and a library that do not go together.
@@ -388,4 +516,7 @@ fn empty_slices_are_lent_as_nothing() {
     assert_eq!(found, Err((Refusal::Cut, Some(0))));
     let found = pressbadger::write_pattern(&pattern, 1, 1, &mut []);
     assert_eq!(found.map_err(why), Err((Refusal::NoRoom, None)));
+    let refused = text_refused(&[], &[], 0);
+    let parts = (refused.refusal(), refused.text(), refused.place());
+    assert_eq!(parts, (Refusal::Syntax, Some(1), Some(0)));
 }

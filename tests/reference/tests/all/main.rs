@@ -9,6 +9,7 @@ mod refusals;
 
 mod congruence;
 mod evidence;
+mod expressions;
 mod files;
 mod questions;
 mod walk;

@@ -205,7 +205,11 @@ fn the_reader_refuses_with_number_and_place() {
 #[test]
 fn every_answer_number_has_its_name() {
     let numbers: Vec<u64> = NAMES.iter().map(|(number, _)| *number).collect();
-    let wanted: Vec<u64> = (0..=7).chain(10..=16).chain(20..=22).collect();
+    let wanted: Vec<u64> = (0..=7)
+        .chain(10..=16)
+        .chain(20..=22)
+        .chain(30..=32)
+        .collect();
     assert_eq!(numbers, wanted);
     let some = [
         (6, "NOT-PROVED"),

@@ -1,0 +1,50 @@
+-- The laws of link, and of the parts that are put together.
+use mathlib.Core.Path.{◌≡◌, sym, ap, ap₂, ◌∙◌, subst}
+use mathlib.Core.List.{List}
+use Prim.Native.Nat.{ℕ, ◌+◌, ◌*◌, ◌/◌, ◌^◌, ◌≤◌, ◌<◌}
+use native.Mathlib.Nat.{one-mul, zero-mul}
+use native.Mathlib.Decide.{dec_lt}
+use native.Mathlib.Omega.{arith}
+use lib.ListN.{length, get_or, set, length-set}
+use lib.Seq.{get_or-set_same, get_or-set_other}
+use lib.Bits.{bit_or, bit_and, and_mask, or_zero_r}
+use Rattle.sets.specs.Sets.{bit}
+use Rattle.expressions.specs.Positions.{linked}
+use Rattle.expressions.specs.Pieces.{Linked}
+
+module _ (l f k : ℕ) (fs xs ys : List ℕ) (h : Linked l f k fs xs) where
+  pub linked-in : k < length xs → bit_and (l / 2 ^ k) 1 ≡ 1 → ys ≡ set xs k (bit_or (get_or xs k 0) f) → Linked l f (k + 1) fs ys
+  linked-in i t e = record { long = ap length e ∙ length-set xs k (bit_or (get_or xs k 0) f) ∙ h.long; entry = entry; rest = rest }
+    where
+      here : get_or ys k 0 ≡ bit_or (get_or fs k 0) (linked l k f)
+      here =
+          let b : bit l k ≡ 1 = sym (and_mask (l / 2 ^ k) 1) ∙ t in
+          ap (λ (z : List ℕ). get_or z k 0) e ∙ get_or-set_same xs k (bit_or (get_or xs k 0) f) 0 i
+          ∙ ap₂ bit_or (h.rest k (omega arith)) (sym (one-mul f) ∙ ap (λ (z : ℕ). z * f) (sym b))
+
+      entry : (s : ℕ) → s < k + 1 → get_or ys s 0 ≡ bit_or (get_or fs s 0) (linked l s f)
+      entry s b = go (dec_lt s k)
+        where
+          go : Dec (s < k) → get_or ys s 0 ≡ bit_or (get_or fs s 0) (linked l s f)
+          go (yes g) = ap (λ (z : List ℕ). get_or z s 0) e ∙ get_or-set_other xs k s (bit_or (get_or xs k 0) f) 0 (λ j. omega arith) ∙ h.entry s g
+          go (no g) = let j : k ≡ s = omega arith in subst (λ (z : ℕ). get_or ys z 0 ≡ bit_or (get_or fs z 0) (linked l z f)) j here
+
+      rest : (s : ℕ) → k + 1 ≤ s → get_or ys s 0 ≡ get_or fs s 0
+      rest s b =
+          ap (λ (z : List ℕ). get_or z s 0) e ∙ get_or-set_other xs k s (bit_or (get_or xs k 0) f) 0 (λ j. omega arith) ∙ h.rest s (omega arith)
+
+  pub linked-out : (bit_and (l / 2 ^ k) 1 ≡ 1 → ⊥) → ys ≡ xs → Linked l f (k + 1) fs ys
+  linked-out t e = record { long = ap length e ∙ h.long; entry = entry; rest = λ s b. ap (λ (z : List ℕ). get_or z s 0) e ∙ h.rest s (omega arith) }
+    where
+      here : get_or ys k 0 ≡ bit_or (get_or fs k 0) (linked l k f)
+      here =
+          let b : bit l k ≡ 0 = omega (arith, and_mask (l / 2 ^ k) 1) in
+          ap (λ (z : List ℕ). get_or z k 0) e ∙ h.rest k (omega arith)
+          ∙ sym (ap (λ (z : ℕ). bit_or (get_or fs k 0) (z * f)) b ∙ ap (bit_or (get_or fs k 0)) (zero-mul f) ∙ or_zero_r (get_or fs k 0))
+
+      entry : (s : ℕ) → s < k + 1 → get_or ys s 0 ≡ bit_or (get_or fs s 0) (linked l s f)
+      entry s b = go (dec_lt s k)
+        where
+          go : Dec (s < k) → get_or ys s 0 ≡ bit_or (get_or fs s 0) (linked l s f)
+          go (yes g) = ap (λ (z : List ℕ). get_or z s 0) e ∙ h.entry s g
+          go (no g) = let j : k ≡ s = omega arith in subst (λ (z : ℕ). get_or ys z 0 ≡ bit_or (get_or fs z 0) (linked l z f)) j here

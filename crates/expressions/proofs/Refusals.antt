@@ -1,0 +1,124 @@
+-- How two texts are refused: the faults of the second text, whose start takes a state too, and the room for the rows.
+use mathlib.Core.Path.{◌≡◌, refl, sym, ap, subst}
+use mathlib.Core.Logic.{◌⊎◌, inl, inr, ⊎_elim}
+use mathlib.Core.List.{List}
+use Prim.Native.Nat.{ℕ, suc, ◌+◌, ◌*◌, ◌≤◌, ◌<◌}
+use native.Mathlib.Omega.{arith}
+use lib.ListN.{length}
+use Rattle.expressions.specs.Expressions.{Expr}
+use Rattle.expressions.specs.Positions.{second}
+use Rattle.expressions.specs.Texts.{Wrong, FirstFault, opens, shuts}
+use Rattle.expressions.specs.Texts.Wrong.{misplaced, unknown, unfinished, tooMany, tooDeep}
+use Rattle.expressions.specs.Both.{Whole, Judged}
+use Rattle.expressions.specs.Answers.{Fine, FineSecond, WrongSecond, FirstSecond, Refusal, Expressed}
+use Rattle.expressions.specs.Answers.WrongSecond.{noStart, inText}
+use Rattle.expressions.specs.Both.{Crowded}
+use Rattle.expressions.specs.Answers.Refusal.{secondText, noRoom}
+use Rattle.expressions.specs.declared.Piece.{Piece}
+use Rattle.expressions.specs.declared.Part.{Part}
+use Rattle.expressions.specs.declared.Part.TheVariants.{Read, Fault}
+use Rattle.expressions.specs.declared.Answer.{Answer}
+use Rattle.expressions.specs.declared.Answer.TheVariants.{Refused}
+use Rattle.expressions.proofs.Passing.{none-here}
+
+-- with 64 states taken and with 65 the same things are wrong
+up : {text : List ℕ} {m q : ℕ} → Wrong text 64 m q → Wrong text 65 m q
+up (misplaced r h e v) = misplaced r h e v
+up (unknown r h e) = unknown r h e
+up (unfinished r f) = unfinished r f
+up (tooMany r h e g) = tooMany r h e (omega arith)
+up (tooDeep r h e g) = tooDeep r h e g
+
+down : {text : List ℕ} {m q : ℕ} → Wrong text 65 m q → Wrong text 64 m q
+down (misplaced r h e v) = misplaced r h e v
+down (unknown r h e) = unknown r h e
+down (unfinished r f) = unfinished r f
+down (tooMany r h e g) = tooMany r h e (omega arith)
+down (tooDeep r h e g) = tooDeep r h e g
+
+-- at place 0 nothing is too deep
+shallow : {text : List ℕ} {taken m q : ℕ} → Wrong text taken m q → q ≡ 0 → m ≤ 31
+unfolding opens shuts
+shallow (misplaced r h e v) j = omega arith
+shallow (unknown r h e) j = omega arith
+shallow (unfinished r f) j = omega arith
+shallow (tooMany r h e g) j = omega arith
+shallow (tooDeep {ts = ts} r h e g) j =
+    let z = none-here r (sym j) in
+    absurd (omega (arith, ap opens z, ap shuts z))
+
+module _ (text : List ℕ) where
+  -- room for the start
+  pub second-first : (b number place : ℕ) → b < 64 → FirstFault text (suc b) number place → FirstSecond text b number place
+  second-first b number place l f = record { wrong = inText f.wrong; least = least }
+    where
+      least : (m q : ℕ) → WrongSecond text b m q → (place < q) ⊎ ((place ≡ q) × (number ≤ m))
+      least m q (noStart g) = absurd (omega arith)
+      least m q (inText w) = f.least m q w
+
+  -- none
+  pub crowded-zero : (number place : ℕ) → place ≡ 0 → FirstFault text 64 number place → FirstSecond text 64 number 0
+  crowded-zero number place z f = record { wrong = inText (up (subst (λ (y : ℕ). Wrong text 64 number y) z f.wrong)); least = least }
+    where
+      least : (m q : ℕ) → WrongSecond text 64 m q → (0 < q) ⊎ ((0 ≡ q) × (number ≤ m))
+      least m q (noStart g) = inr (refl, shallow f.wrong z)
+      least m q (inText w) = ⊎_elim (λ l. inl (omega arith)) (λ k. inr (omega (arith, k.0), k.1)) (f.least m q (down w))
+
+  pub crowded-later : (number place : ℕ) → (place ≡ 0 → ⊥) → FirstFault text 64 number place → FirstSecond text 64 31 0
+  crowded-later number place z f = record { wrong = noStart (omega arith); least = least }
+    where
+      least : (m q : ℕ) → WrongSecond text 64 m q → (0 < q) ⊎ ((0 ≡ q) × (31 ≤ m))
+      least m q (noStart g) = inr (refl, omega arith)
+      least m q (inText w) = ⊎_elim (λ l. inl (omega arith)) (λ k. inl (omega (arith, k.0))) (f.least m q (down w))
+
+  pub crowded-fine : ((m q : ℕ) → Wrong text 64 m q → ⊥) → FirstSecond text 64 31 0
+  crowded-fine f = record { wrong = noStart (omega arith); least = least }
+    where
+      least : (m q : ℕ) → WrongSecond text 64 m q → (0 < q) ⊎ ((0 ≡ q) × (31 ≤ m))
+      least m q (noStart g) = inr (refl, omega arith)
+      least m q (inText w) = absurd (f m q (down w))
+
+pub fine : {text : List ℕ} {u : ℕ} {fs fs' ns ns' : List ℕ} {x : Piece} (w : Whole text u fs fs' ns ns' x) → Fine text u w.tree
+fine w = record { means = w.means; faultless = w.faultless }
+
+pub fine-second : (text : List ℕ) (b : ℕ) (e : Expr) → b < 64 → Fine text (suc b) e → FineSecond text b e
+fine-second text b e l k = record { means = k.means; faultless = faultless }
+  where
+    faultless : (m q : ℕ) → WrongSecond text b m q → ⊥
+    faultless m q (noStart g) = omega arith
+    faultless m q (inText w) = k.faultless m q w
+
+-- ---- after a first text that nothing is wrong with
+
+module _ {one fs fs' ns ns' : List ℕ} {x : Piece} (w : Whole one 1 fs fs' ns ns' x) where
+  pub at-second : x.used ≡ second w.tree
+  at-second = omega (arith, w.states)
+
+  pub after-second : x.used + 1 ≡ suc (second w.tree)
+  after-second = omega (arith, w.states)
+
+  pub second-fine : {two gs gs' ms ms' : List ℕ} {y : Piece} (v : Whole two (x.used + 1) gs gs' ms ms' y) → FineSecond two (second w.tree) v.tree
+  second-fine {two} v =
+      fine-second two (second w.tree) v.tree (omega (arith, w.states, v.states, v.room))
+      (subst (λ (z : ℕ). Fine two z v.tree) after-second (fine v))
+
+  module _ {two rows : List ℕ} where
+    pub refuse-second : {n p : ℕ} → x.used < 64 → FirstFault two (x.used + 1) n p → Refusal one two rows n p 2
+    refuse-second {n} {p} l f =
+        secondText (fine w)
+        (second-first two (second w.tree) n p (omega (arith, at-second)) (subst (λ (z : ℕ). FirstFault two z n p) after-second f))
+
+    pub refuse-room : {gs gs' ms ms' : List ℕ} {y : Piece} → Whole two (x.used + 1) gs gs' ms ms' y → length rows < y.used * 32
+        → Refusal one two rows 14 0 0
+    refuse-room v l = noRoom (fine w) (second-fine v) (omega (arith, w.states, v.states))
+
+  module _ (two rows hs hs' ms ms' : List ℕ) (l : 64 ≤ x.used) where
+    refuse-start : {n : ℕ} {r : Answer} → r ≡ Refused n 0 2 → FirstSecond two 64 n 0 → Expressed one two rows rows r
+    refuse-start {n} {r} e f =
+        let full : 64 ≡ second w.tree = omega (arith, at-second, w.room) in
+        subst (Expressed one two rows rows) (sym e) (secondText (fine w) (subst (λ (z : ℕ). FirstSecond two z n 0) full f), refl)
+
+    pub refuse-crowded : (b : Part) (r : Answer) → Judged two 64 hs hs' ms ms' b → Crowded b r → Expressed one two rows rows r
+    refuse-crowded (Read y) r j c = refuse-start c (crowded-fine two j.0.faultless)
+    refuse-crowded (Fault n p) r j c =
+        ⊎_elim (λ d. refuse-start d.1 (crowded-zero two n p d.0 j.0)) (λ d. refuse-start d.1 (crowded-later two n p d.0 j.0)) c
