@@ -200,12 +200,13 @@ pb_judged pb_judge(size_t states, size_t letters, uint64_t finals,
                    const uint8_t *sequence, size_t sequence_count);
 
 /* Checks a list of pairs as evidence that x and y accept the same sequences, whoever wrote it.
- *   PB_PROVED      they do. (x, y) itself is listed, and each pair agrees on the empty sequence and
- *                  has, for each letter, successors that follow from the list. place is 0.
+ *   PB_PROVED      they do. (x, y) follows from the list, and each pair agrees on the empty sequence
+ *                  and has, for each letter, successors that follow from the list. place is 0.
  *   PB_NOT_PROVED  the list does not show it, which does not mean that they differ. place is the number
- *                  of pairs where (x, y) is not listed, else the number of the lowest failing pair.
- * The pairs that PB_SAME left are such a list, unless there are none. Refusals: 10, 11, 16, 12.
- * Nothing is written. Stack: about 300 bytes. */
+ *                  of pairs where (x, y) does not follow, else the number of the lowest failing pair.
+ * Two sets follow from a list where they are equal or listed, either way round, or are led to by these
+ * in chains and unions. The pairs that PB_SAME left are always such a list, also where they are none.
+ * Refusals: 10, 11, 16, 12. Nothing is written. Stack: about 300 bytes. */
 pb_checked pb_check(size_t states, size_t letters, uint64_t finals,
                     const uint64_t *rows, size_t rows_count,
                     uint64_t x, uint64_t y,

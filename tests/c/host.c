@@ -74,7 +74,7 @@ static void compares(const question *q) {
         written = i >= GUARD && i < GUARD + q->answer.length;
         check(sequence[i] == (written ? q->sequence[i - GUARD] : UNTOUCHED_BYTE), q->name);
     }
-    if (c.answer == PB_SAME && c.kept > 0) {
+    if (c.answer == PB_SAME) {
         pb_checked p = pb_check_records(q->states, q->letters, q->finals, q->rows, q->states * q->letters, q->x, q->y,
                                         records + GUARD, c.kept);
         check(p.answer == PB_PROVED && p.place == 0, "the records of SAME are evidence");
@@ -85,6 +85,11 @@ static void compares(const question *q) {
     pb_compared l = pb_compare_lists(q->states, q->letters, q->finals, q->rows, q->states * q->letters, q->x, q->y,
                                      q->room, lefts, LENT, rights, LENT, parents, LENT, taken, LENT, letters, LENT);
     check(same_compared(l, c), "lists answer as records do");
+    if (l.answer == PB_SAME) {
+        pb_checked p = pb_check(q->states, q->letters, q->finals, q->rows, q->states * q->letters, q->x, q->y,
+                                lefts, l.kept, rights, l.kept);
+        check(p.answer == PB_PROVED && p.place == 0, "the lists of SAME are evidence");
+    }
     for (size_t i = 0; i < l.kept; i++) {
         pb_record r = {lefts[i], rights[i], parents[i], taken[i]};
         check(same_record(r, records[GUARD + i]), "lists hold what records hold");
@@ -132,7 +137,13 @@ static void checks(void) {
     p = pb_check(6, 1, 18, B, 6, 1, 8, lefts, 2, rights, 2);
     check(p.answer == PB_NOT_PROVED && p.place == 1, "without the last pair the second fails");
     p = pb_check(6, 1, 18, B, 6, 8, 1, lefts, 3, rights, 3);
-    check(p.answer == PB_NOT_PROVED && p.place == 3, "(8,1) is not listed");
+    check(p.answer == PB_PROVED && p.place == 0, "(8,1) follows from (1,8)");
+    p = pb_check(6, 1, 18, B, 6, 7, 56, lefts, 3, rights, 3);
+    check(p.answer == PB_PROVED && p.place == 0, "(7,56) is the union of the three");
+    p = pb_check(6, 1, 18, B, 6, 1, 1, lefts, 0, rights, 0);
+    check(p.answer == PB_PROVED && p.place == 0, "a set against itself needs no pairs");
+    p = pb_check(6, 1, 18, B, 6, 1, 48, lefts, 3, rights, 3);
+    check(p.answer == PB_NOT_PROVED && p.place == 3, "(1,48) does not follow");
     p = pb_check(6, 1, 18, B, 6, 1, 8, lefts, 3, rights, 2);
     check(p.answer == PB_BAD_LIST && p.place == 0, "sides of different length");
 }

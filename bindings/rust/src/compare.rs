@@ -29,7 +29,7 @@ pub struct Record {
 pub enum Compared<'lent, Records = &'lent [Record]> {
     /// Every event sequence is accepted from both sets or from neither.
     Same {
-        /// The records kept: evidence that [`check`](crate::check) proves, unless there are none.
+        /// The records kept, none where `x` is `y`: evidence that [`check`](crate::check) always proves.
         records: Records,
         /// How many candidates were dealt with: one more than letters times records.
         examined: usize,

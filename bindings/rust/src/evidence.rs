@@ -14,7 +14,7 @@ pub enum Checked {
     Proved,
     /// The evidence does not hold. That does not mean that the languages differ.
     NotProved {
-        /// The number of pairs if the starting pair is not listed, else the lowest failing pair.
+        /// The number of pairs if the two sets do not follow from the list, else the lowest failing pair.
         place: usize,
     },
 }
@@ -32,9 +32,11 @@ impl Checked {
 /// Checks a list of pairs as evidence that the sets `x` and `y` accept the same sequences. Pair i
 /// is `lefts[i]` and `rights[i]`.
 ///
-/// The evidence holds exactly when (`x`, `y`) itself is a listed pair, in that order, and each pair
-/// agrees on the empty sequence and has, for each letter, successors congruent by the list. The
-/// refusals are, in this order, BAD-SIZE, BAD-TABLE, BAD-LIST and BAD-SET.
+/// The evidence holds exactly when `x` and `y` are congruent by the list, and each pair agrees on
+/// the empty sequence and has, for each letter, successors congruent by the list. Two sets are
+/// congruent by a list where they are equal or listed, either way round, or are led to by these in
+/// chains and unions; so no pairs at all show that a set is the same as itself. The refusals are, in
+/// this order, BAD-SIZE, BAD-TABLE, BAD-LIST and BAD-SET.
 pub fn check(
     pattern: &Pattern<'_>,
     x: u64,

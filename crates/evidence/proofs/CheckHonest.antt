@@ -11,7 +11,7 @@ use Rattle.evidence.specs.Evidence.{Offer, ValidOffer, checkTest, Checked, numbe
 use Rattle.evidence.specs.Evidence.ByPairs.{all-hold, fails}
 use Rattle.evidence.specs.Evidence.Checked.{refuses, not-started, started}
 use Rattle.evidence.specs.Meaning.{checkLines, Holding, FailsAt, HonestCheck}
-use Rattle.evidence.specs.Meaning.FailsAt.{unlisted, lowest}
+use Rattle.evidence.specs.Meaning.FailsAt.{unstarted, lowest}
 use Rattle.evidence.specs.declared.Answer.{Answer}
 use Rattle.evidence.specs.declared.Answer.TheVariants.{Proved, NotProved, Refused}
 use Rattle.evidence.proofs.Validity.{offer-valid}
@@ -21,11 +21,11 @@ use Rattle.evidence.proofs.Determined.{check-determined}
 
 module _ (o : Offer) where
   -- evidence that holds is PROVED, and evidence that fails is NOT-PROVED at that place
-  holding-proved : ValidOffer o → Holding o → Checked o Proved
-  holding-proved v h = started ((offer-valid o).1 v) h.listed (all-hold h.pairs)
+  pub holding-proved : ValidOffer o → Holding o → Checked o Proved
+  holding-proved v h = started ((offer-valid o).1 v) h.starts (all-hold h.pairs)
 
   failing-placed : {place : ℕ} → ValidOffer o → FailsAt o place → Checked o (NotProved place)
-  failing-placed v (unlisted f) = not-started ((offer-valid o).1 v) f
+  failing-placed v (unstarted f) = not-started ((offer-valid o).1 v) f
   failing-placed v (lowest s l p f) = started ((offer-valid o).1 v) s (fails l p f)
 
   no-line : checkTest o ≡ Fine → (w : ℕ) → Applies (checkLines o) w → ⊥
@@ -71,8 +71,8 @@ module _ (o : Offer) where
 -- an answer means what its number and its place say
 pub check-honest : {o : Offer} {a : Answer} → Checked o a → HonestCheck o a
 check-honest {o} (refuses t) = refused-honest o t
-check-honest {o} (not-started t f) = failing-honest o (not-started t f) t (unlisted f)
-check-honest {o} (started t s (all-hold h)) = proved-honest o (started t s (all-hold h)) t (record { listed = s; pairs = h })
+check-honest {o} (not-started t f) = failing-honest o (not-started t f) t (unstarted f)
+check-honest {o} (started t s (all-hold h)) = proved-honest o (started t s (all-hold h)) t (record { starts = s; pairs = h })
 check-honest {o} (started t s (fails l p f)) = failing-honest o (started t s (fails l p f)) t (lowest s l p f)
 
 -- a valid offer is not refused: it gets PROVED or NOT-PROVED

@@ -33,6 +33,6 @@ second-fails h = let e = h.agrees in let z : ◌≡◌ {A = ℕ} 0 1 = cc in ome
 
 pub not-proved-yet-same : Checked needless (NotProved 1) × SameLanguage needless.pattern needless.x needless.y
 not-proved-yet-same = (
-  started not-refused (record { at = 0; below = omega arith; left = refl; right = refl }) (fails {i = 1} (omega arith) first-holds second-fails),
+  started not-refused (same 1) (fails {i = 1} (omega arith) first-holds second-fails),
   record { words = λ w o. refl },
 )

@@ -2,6 +2,7 @@
 pub mod Validity
 pub mod Refusing
 pub mod Searching
+pub mod Starting
 pub mod Meaning
 pub mod Determined
 pub mod CheckHonest

@@ -5,7 +5,6 @@ use lib.ListN.{length}
 use Rattle.pattern.specs.Pattern.{Pattern}
 use Rattle.pattern.specs.Language.{SameLanguage}
 use Rattle.congruence.specs.Congruence.{Listed}
-use Rattle.congruence.specs.Congruence.Congruent.{given}
 use Rattle.congruence.specs.Progress.{Progress}
 use Rattle.congruence.proofs.UpTo.{up-to-congruence}
 use Rattle.evidence.specs.Evidence.{Offer, HoldBelow, Checked}
@@ -19,4 +18,4 @@ list-progress {P} {lefts} {rights} f = record { each = λ a b r. rw (← r.left,
 
 -- whoever wrote the list: PROVED, and the languages are equal
 pub evidence-means-same : {o : Offer} → Checked o Proved → SameLanguage o.pattern o.x o.y
-evidence-means-same (started fine start (all-hold f)) = up-to-congruence (list-progress f) (given start)
+evidence-means-same (started fine start (all-hold f)) = up-to-congruence (list-progress f) start

@@ -1,22 +1,15 @@
--- What the three loops of the check keep: the pairs looked at, the letters tried, the pairs that hold. Assumes nothing.
+-- What the two loops of the check keep: the letters tried, the pairs that hold. Assumes nothing.
 use mathlib.Core.Path.{◌≡◌}
 use mathlib.Core.List.{List, []}
 use Prim.Native.Nat.{ℕ, ◌≤◌, ◌<◌}
 use native.Mathlib.Omega.{arith}
-use lib.ListN.{length, get_or}
+use lib.ListN.{length}
 use Rattle.pattern.specs.Pattern.{Pattern}
 use Rattle.pattern.specs.Language.{next, accepts}
 use Rattle.congruence.specs.Congruence.{Congruent, Listed}
 use Rattle.evidence.specs.Evidence.{Holds, HoldBelow, ByPairs}
 use Rattle.evidence.specs.Evidence.ByPairs.{all-hold}
 use Rattle.evidence.specs.declared.Answer.TheVariants.{Proved}
-
--- ---- the starting pair
-
--- none of the first i pairs is (x, y)
-pub record Unlisted (lefts rights : List ℕ) (x y i : ℕ) : Type 0 where
-  pub bound : i ≤ length lefts
-  pub none : (j : ℕ) → j < i → get_or lefts j 0 ≡ x → get_or rights j 0 ≡ y → ⊥
 
 -- ---- one pair
 

@@ -1,6 +1,6 @@
 -- Evidence: somebody offers a list of pairs to show that X and Y have one language. Whoever wrote it, PROVED means that they have (`evidence-means-same`).
 --   Offer        what is offered: a pattern, X and Y, and the two sides of the list
---   Starts       the starting pair is in order: (X, Y) itself is a listed pair, in that order
+--   Starts       the starting pair is in order: X and Y are congruent by the list
 --   Holds        a pair agrees on the empty sequence and has, for each letter, successors congruent by the list: it progresses
 --   HoldsAt i    pair i of the list holds; HoldBelow i: pairs 0 to i - 1 do
 --   checkTest    what is refused, in the order 10, 11, 16, 12
@@ -15,7 +15,7 @@ use Rattle.sets.specs.Sets.{Good}
 use Rattle.sets.specs.Rooms.{maxRoom}
 use Rattle.pattern.specs.Pattern.{Pattern, patternOf, AllGood, Valid}
 use Rattle.pattern.specs.Tests.{shapeTest, masksTest, setTest}
-use Rattle.congruence.specs.Congruence.{Listed}
+use Rattle.congruence.specs.Congruence.{Congruent, Listed}
 use Rattle.congruence.specs.Progress.{Progresses}
 use Rattle.evidence.specs.declared.Answer.{Answer}
 use Rattle.evidence.specs.declared.Answer.TheVariants.{Proved, NotProved, Refused}
@@ -33,7 +33,7 @@ offerOf n k finals rows x y lefts rights = record { pattern = patternOf n k fina
 -- ---- the pairs
 
 abbrev pub Starts : List ℕ → List ℕ → ℕ → ℕ → Type 0
-Starts lefts rights x y = Listed lefts rights x y
+Starts lefts rights x y = Congruent (Listed lefts rights) x y
 
 abbrev pub Holds : Pattern → List ℕ → List ℕ → ℕ → ℕ → Type 0
 Holds P lefts rights a b = Progresses P (Listed lefts rights) a b

@@ -1,8 +1,8 @@
 -- What the answers of the check mean, to a host that sees their numbers.
 --   IsRefused     the answer is a refusal
 --   checkLines    the lines of the refusals: `checkTest` goes by them (`check-lines`)
---   Holding       evidence that holds: (X, Y) is a listed pair, and every pair holds
---   FailsAt       where evidence fails: the number of pairs where (X, Y) is not listed, else the lowest failing pair
+--   Holding       evidence that holds: X and Y are congruent by the list, and every pair holds
+--   FailsAt       where evidence fails: the number of pairs where X and Y are not congruent by the list, else the lowest failing pair
 --   HonestCheck   what an answer means (`check-honest`)
 use Rattle.std.specs.Prelude.{◌≡◌, ◌↔◌, ℕ, ◌≤◌, ◌<◌, length}
 use Rattle.verdict.specs.Lines.{Lines, Applies}
@@ -37,11 +37,11 @@ checkLines o =
 -- ---- the evidence
 
 pub record Holding (o : Offer) : Type 0 where
-  pub listed : Starts o.lefts o.rights o.x o.y
+  pub starts : Starts o.lefts o.rights o.x o.y
   pub pairs : HoldBelow o.pattern o.lefts o.rights (length o.lefts)
 
 pub data FailsAt (o : Offer) : ℕ → Type 0 where
-  unlisted : (Starts o.lefts o.rights o.x o.y → ⊥) → FailsAt o (length o.lefts)
+  unstarted : (Starts o.lefts o.rights o.x o.y → ⊥) → FailsAt o (length o.lefts)
   lowest : {i : ℕ} → Starts o.lefts o.rights o.x o.y → i < length o.lefts → HoldBelow o.pattern o.lefts o.rights i
       → (HoldsAt o.pattern o.lefts o.rights i → ⊥) → FailsAt o i
 

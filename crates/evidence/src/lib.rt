@@ -4,7 +4,7 @@
 ghost use Rattle.std.specs.Prelude.{◌≡◌, ◌*◌, ◌≤◌, length};
 ghost use Rattle.verdict.specs.Tests.{Decides};
 ghost use Rattle.pattern.specs.Pattern.{patternOf};
-ghost use Rattle.evidence.specs.Evidence.{offerOf, Starts, Holds, ByPairs, Checked};
+ghost use Rattle.evidence.specs.Evidence.{offerOf, Holds, ByPairs, Checked};
 ghost use Rattle.evidence.specs.Evidence.{listTest, pairsTest, checkTest};
 
 use sets::States;
@@ -74,21 +74,6 @@ fn check_test(
         return masks;
     };
     pairs_test(states, x, y, lefts, rights)
-}
-
-// Whether (x, y) itself is a listed pair, in that order.
-fn starts(lefts: &[u64], rights: &[u64], x: u64, y: u64) -> bool
-    requires { length lefts.now ≡ length rights.now }
-    ensures { Decides (Starts lefts.now rights.now x y) result }
-{
-    let mut i = 0;
-    while i < lefts.len() {
-        if lefts[i] == x && rights[i] == y {
-            return true;
-        }
-        i += 1;
-    }
-    false
 }
 
 // Whether the pair (a, b) agrees on the empty sequence and has successors congruent by the list.
@@ -165,7 +150,7 @@ pub fn check(
     if let Verdict::Against(number) = test {
         return Answer::Refused(number);
     }
-    if !starts(lefts, rights, x, y) {
+    if !congruence::congruent(lefts, rights, x, y) {
         return Answer::NotProved(lefts.len());
     }
     by_pairs(states, letters, finals, rows, lefts, rights)

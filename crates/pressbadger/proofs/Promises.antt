@@ -15,16 +15,15 @@ use Rattle.verdict.proofs.Numbered.{allFrom, among-need, among-from}
 use Rattle.lent.specs.Lent.{lay}
 use Rattle.lent.proofs.Laying.{take-lay, drop-lay}
 use Rattle.sets.specs.Sets.{Good}
-use Rattle.sets.specs.Rooms.{maxRoom}
 use Rattle.pattern.specs.Pattern.{Pattern, patternOf, Valid}
 use Rattle.pattern.specs.Language.{accepts, Over, SameLanguage}
 use Rattle.pattern.specs.Judge as Judge
 use Rattle.pattern.specs.Judge.{judged}
 use Rattle.pattern.specs.declared.Judged.{Judged}
 use Rattle.pattern.proofs.Judging.{judge-honest, judge-answered, judge-lines, judge-among}
-use Rattle.walk.specs.Walk.{Question, Outcome, keptOf, wordOf, Walk}
+use Rattle.walk.specs.Walk.{Question, Outcome, keptOf, wordOf}
 use Rattle.walk.specs.Walk.Outcome.{Same, Different, Full}
-use Rattle.walk.specs.Columns.{Field, value, Columns, column, columnsOf, layColumns, firsts}
+use Rattle.walk.specs.Columns.{Field, value, Columns, column, columnsOf, firsts}
 use Rattle.walk.specs.Meaning.{Proper, Covers}
 use Rattle.walk.proofs.Columns.{fit-at, fit-by}
 use Rattle.comparison.specs.Answers as Comparison
@@ -44,6 +43,7 @@ use Rattle.evidence.specs.Meaning as OfEvidence
 use Rattle.evidence.specs.Meaning.{Holding}
 use Rattle.evidence.specs.declared.Answer as Evidence'
 use Rattle.evidence.proofs.CheckHonest.{check-honest, valid-answered}
+use Rattle.evidence.proofs.Starting.{no-pairs-valid, no-pairs-hold}
 use Rattle.evidence.proofs.Refusing.{check-lines, check-among}
 use Rattle.numbers.specs.Numbers.{AreBytes}
 use Rattle.patternfile.specs.PatternFile.{fileBytes}
@@ -68,13 +68,13 @@ use Rattle.records.specs.declared.answers.PbCompared.{PbCompared}
 use Rattle.records.specs.declared.answers.PbChecked.{PbChecked}
 use Rattle.records.specs.Answers.{compareAnswer, ComparedLists, checkAnswer, CheckedOffer}
 use Rattle.records.specs.Records.{written, columnsIn, lentFor, callOn, ComparedRecords}
-use Rattle.records.proofs.Agreeing.{column-in, map-written, firsts-known, pb-compare-by-columns, pb-compare-from-columns}
-use Rattle.records.proofs.Offering.{offered, same-is-evidence}
+use Rattle.records.specs.Offers.{offerFor}
+use Rattle.records.proofs.Agreeing.{column-in, columns-first, firsts-known, pb-compare-by-columns, pb-compare-from-columns}
+use Rattle.records.proofs.Offering.{compare-same-is-proved}
 use Rattle.pressbadger.specs.declared.PbJudged.{PbJudged}
 use Rattle.pressbadger.specs.declared.files.PbPattern.{PbPattern}
 use Rattle.pressbadger.specs.declared.files.PbWritten.{PbWritten}
 use Rattle.pressbadger.specs.declared.texts.PbExpressed.{PbExpressed}
-use Rattle.pressbadger.specs.Checks.{offerFor}
 use Rattle.pressbadger.specs.Judges.{judgeAnswer}
 use Rattle.pressbadger.specs.Files.{patternAnswer, ReadPattern, writtenAnswer, WrittenPattern}
 use Rattle.pressbadger.specs.Texts.{expressedAnswer, ExpressedTexts}
@@ -337,36 +337,24 @@ module _ {o : Offer} {a : Evidence'.Answer} (k : Checked o a) where
 pub pb-check-means : {o : Offer} {r : PbChecked} → CheckedOffer o r → CheckedMeans o r
 pb-check-means k = rw k.answers (check-means k.checked)
 
--- what SAME left, where it kept a pair, is evidence that holds
-evident : {Q : Question} {room : ℕ} → Proper Q → room ≤ maxRoom → (o : Outcome) → Walk Q room o → Comparison.numberOf (answerOf o) ≡ SAME → 0 < (valuesOf (answerOf o)).kept
-    → ValidOffer (offered Q (keptOf o)) × Holding (offered Q (keptOf o))
-evident proper most (Same kept e) w z some = same-is-evidence proper most w some
-evident proper most (Different kept e u) w z some = absurd (omega (arith, z))
-evident proper most (Full kept e) w z some = absurd (omega (arith, z))
+-- no pairs at all: PROVED exactly where X and Y are one set
+pub pb-check-no-pairs : {Q : Question} {r : PbChecked} → Proper Q → CheckedOffer (offerFor Q (columnsOf [])) r → (r.answer ≡ PROVED) ↔ (Q.left ≡ Q.right)
+pb-check-no-pairs p k =
+    let proved = (pb-check-means k).proved in
+    (λ e. no-pairs-hold.0 (proved.0 e).1, λ e. proved.1 (no-pairs-valid p.valid p.left-good p.right-good, no-pairs-hold.1 e))
 
--- so pb_check_records answers PROVED to the first `kept` records
-pub pb-check-records-after-same : {Q : Question} {room : ℕ} {records : List PbRecord} {sequence : List ℕ} {r : PbCompared} {later : List PbRecord} {word : List ℕ} {s : PbChecked}
-    → ComparedRecords Q room records sequence r later word → r.answer ≡ SAME → 0 < r.kept → CheckedOffer (offerFor Q (columnsIn (take r.kept later))) s → s.answer ≡ PROVED
-pb-check-records-after-same (ComparedRecords.refuses e) z some k = absurd (omega (arith, high compareRefusals refl ((compare-among _).among _ e), z))
-pb-check-records-after-same {Q} {room} {records} {sequence} (ComparedRecords.walks {o} f w) z some k =
-    let (proper, fits) = (compare-fine (callOn Q room records sequence)).0 f in
-    let first = take-lay (map written (keptOf o)) records (valuesOf (answerOf o)).kept (length-map (keptOf o) written ∙ sym (kept-is o)) in
-    (pb-check-means k).proved.1
-    (rw (first, map-written Field.left (keptOf o), map-written Field.right (keptOf o)) (evident proper fits.most o w z some))
-
--- and pb_check to their two sides
-pub pb-check-after-same : {c : Call} {r : PbCompared} {later : Lent} {s : PbChecked} → ComparedLists c r later → r.answer ≡ SAME → 0 < r.kept
+-- what SAME left is PROVED, as it is: pb_compare_lists, then pb_check of the first `kept` places of the two sides
+pub pb-check-after-same : {c : Call} {r : PbCompared} {later : Lent} {s : PbChecked} → ComparedLists c r later → r.answer ≡ SAME
     → CheckedOffer (offerFor c.question (firsts r.kept later.columns)) s → s.answer ≡ PROVED
-pb-check-after-same {c} {r} {later} {s} k z some q = from k.compared (rw k.answers at z) (rw k.answers at some) (rw k.answers at q)
-  where
-    from : {a : Answer} {later : Lent} → Compared c a later → Comparison.numberOf a ≡ SAME → 0 < (valuesOf a).kept
-        → CheckedOffer (offerFor c.question (firsts (valuesOf a).kept later.columns)) s → s.answer ≡ PROVED
-    from (refuses e) z some q = absurd (omega (arith, high compareRefusals refl ((compare-among c).among _ e), z))
-    from (walks {o} f w) z some q =
-        let (proper, fits) = (compare-fine c).0 f in
-        let n = (valuesOf (answerOf o)).kept in
-        let first : firsts n (layColumns (keptOf o) c.lent.columns) ≡ columnsOf (keptOf o) = rw (kept-is o) (firsts-laid (keptOf o) c.lent.columns) in
-        (pb-check-means (subst (λ (u : Columns). CheckedOffer (offerFor c.question u) s) first q)).proved.1 (evident proper fits.most o w z some)
+pb-check-after-same k z q =
+    let proved = compare-same-is-proved k.compared (rw k.answers at z) (rw k.answers at q.checked) in
+    rw (q.answers, proved) refl
+
+-- and pb_compare, or pb_compare_default at the default room, then pb_check_records of the first `kept` records
+pub pb-check-records-after-same : {Q : Question} {room : ℕ} {records : List PbRecord} {sequence : List ℕ} {r : PbCompared} {later : List PbRecord} {word : List ℕ} {s : PbChecked}
+    → ComparedRecords Q room records sequence r later word → r.answer ≡ SAME → CheckedOffer (offerFor Q (columnsIn (take r.kept later))) s → s.answer ≡ PROVED
+pb-check-records-after-same {Q} {r = r} {later} {s = s} k z q =
+    pb-check-after-same (pb-compare-by-columns k) z (subst (λ (u : Columns). CheckedOffer (offerFor Q u) s) (columns-first r.kept later) q)
 
 -- ---- pb_judge
 

@@ -1,16 +1,12 @@
 -- What the check of evidence answers: for two lists of numbers, and for the two sides of a list of records.
---   offerFor   the two sides of a list of pairs, offered for X and Y of a question
 use Rattle.std.specs.Prelude.{List, ℕ}
-use Rattle.walk.specs.Walk.{Question, questionOf}
-use Rattle.walk.specs.Columns.{Columns}
-use Rattle.evidence.specs.Evidence.{Offer, offerOf}
+use Rattle.walk.specs.Walk.{questionOf}
+use Rattle.evidence.specs.Evidence.{offerOf}
 use Rattle.records.specs.declared.PbRecord.{PbRecord}
 use Rattle.records.specs.declared.answers.PbChecked.{PbChecked}
 use Rattle.records.specs.Answers.{CheckedOffer}
 use Rattle.records.specs.Records.{columnsIn}
-
-abbrev pub offerFor : Question → Columns → Offer
-offerFor Q pairs = record { pattern = Q.pattern; x = Q.left; y = Q.right; lefts = pairs.lefts; rights = pairs.rights }
+use Rattle.records.specs.Offers.{offerFor}
 
 abbrev pub ChecksLists : ℕ → ℕ → ℕ → List ℕ → ℕ → ℕ → List ℕ → List ℕ → PbChecked → Type 0
 ChecksLists states letters finals rows x y lefts rights r = CheckedOffer (offerOf states letters finals rows x y lefts rights) r

@@ -7,7 +7,7 @@ use lib.ListN.{length, get_or, drop, take, length-map}
 use Rattle.lent.specs.Lent.{lay}
 use Rattle.walk.specs.Walk.{Question, Record, keptOf, wordOf}
 use Rattle.walk.specs.Columns.{Field, value, column, firsts}
-use Rattle.walk.proofs.Columns.{column-by, column-each, record-path, columns-path}
+use Rattle.walk.proofs.Columns.{column-by, record-path, columns-path}
 use Rattle.comparison.specs.Answers.{Lent, answerOf, layOut, Compared}
 use Rattle.comparison.specs.Answers.Compared.{refuses, walks}
 use Rattle.comparison.specs.declared.Answer.{Answer}
@@ -39,15 +39,18 @@ known-by (r ∷ rs) (q ∷ qs) f =
     (ap written (record-path (λ (x : Field). valueIn x r) (λ (x : Field). valueIn x q) (λ x. ap (λ (l : List ℕ). get_or l 0 0) (f x))))
     (known-by rs qs (λ x. ap (drop 1) (f x)))
 
+-- the columns of the first records are the first places of the columns
+pub columns-first : (n : ℕ) (rs : List PbRecord) → columnsIn (take n rs) ≡ firsts n (columnsIn rs)
+columns-first n rs =
+    columns-path (λ (x : Field). map (valueIn x) (take n rs)) (λ (x : Field). take n (column x (columnsIn rs)))
+    (λ x. take-map (valueIn x) n rs ∙ ap (take n) (sym (column-by (λ (y : Field). map (valueIn y) rs) x)))
+
 -- two lists with the same first places in every column have the same first records
 pub firsts-known : (n : ℕ) (rs qs : List PbRecord) → firsts n (columnsIn rs) ≡ firsts n (columnsIn qs) → take n rs ≡ take n qs
-firsts-known n rs qs e = known-by (take n rs) (take n qs) (λ x. first rs x ∙ ap (column x) e ∙ sym (first qs x))
+firsts-known n rs qs e = known-by (take n rs) (take n qs) (λ x. first rs x ∙ ap (column x) (columns-first n rs ∙ e ∙ sym (columns-first n qs)) ∙ sym (first qs x))
   where
-    first : (rs : List PbRecord) (x : Field) → map (valueIn x) (take n rs) ≡ column x (firsts n (columnsIn rs))
-    first rs x =
-        take-map (valueIn x) n rs
-        ∙ ap (take n) (sym (column-by (λ (y : Field). map (valueIn y) rs) x))
-        ∙ sym (column-each (λ (y : Field) (old : List ℕ). take n old) (columnsIn rs) x)
+    first : (rs : List PbRecord) (x : Field) → map (valueIn x) (take n rs) ≡ column x (columnsIn (take n rs))
+    first rs x = sym (column-by (λ (y : Field). map (valueIn y) (take n rs)) x)
 
 -- ---- the columns of the records that are laid are the columns that are laid
 
@@ -56,7 +59,7 @@ map-drop f zero rs = refl
 map-drop f (suc n) [] = refl
 map-drop f (suc n) (r ∷ rs) = map-drop f n rs
 
-pub map-written : (x : Field) (kept : List Record) → map (valueIn x) (map written kept) ≡ map (value x) kept
+map-written : (x : Field) (kept : List Record) → map (valueIn x) (map written kept) ≡ map (value x) kept
 map-written x [] = refl
 map-written x (k ∷ kept) = ap (λ (t : List ℕ). value x k ∷ t) (map-written x kept)
 

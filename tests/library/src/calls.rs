@@ -1,12 +1,13 @@
 //! Every call made on lent memory, with its answer in the reference's types.
 //!
 //! Each function here fails if the call changed anything that it was lent and
-//! that its answer does not name as written.
+//! that its answer does not name as written. A comparison fails as well if it
+//! answers SAME, and the check does not answer PROVED to what it left, as it lies.
 
-use crate::host::{self, Lists, PbCompared, RecordBytes};
+use crate::host::{self, Lists, PbChecked, PbCompared, RecordBytes};
 use crate::lent::{Lent, Unit};
 use crate::probes::{self, Probed};
-use reference::answers::DONE;
+use reference::answers::{DONE, PROVED, SAME};
 use reference::congruence::Pair;
 use reference::evidence::Check;
 use reference::expressions::Expressing;
@@ -70,6 +71,10 @@ fn compared(
     let mut records = Lent::blank(lengths.records);
     let mut sequence = Lent::blank(lengths.sequence);
     let found = call(rows.get(), records.get_mut(), sequence.get_mut());
+    if u64::from(found.answer) == SAME {
+        let left = &records.get()[..found.kept];
+        assert_proved(question, host::check_records(question, rows.get(), left));
+    }
     rows.assert_unchanged();
     let kept = records.written(0..found.kept);
     comparison(found, kept.iter().copied().map(record).collect(), &sequence)
@@ -101,8 +106,16 @@ pub fn compare_lists(
         lists,
         sequence.get_mut(),
     );
-    rows.assert_unchanged();
     let kept = 0..found.kept;
+    if u64::from(found.answer) == SAME {
+        let Question { pattern, x, y } = question;
+        let (lefts, rights) = (&lefts.get()[kept.clone()], &rights.get()[kept.clone()]);
+        assert_proved(
+            question,
+            host::check(pattern, rows.get(), *x, *y, lefts, rights),
+        );
+    }
+    rows.assert_unchanged();
     let (lefts, rights) = (lefts.written(kept.clone()), rights.written(kept.clone()));
     let (parents, taken) = (parents.written(kept.clone()), taken.written(kept.clone()));
     let record = |number: usize| Record {
@@ -112,6 +125,13 @@ pub fn compare_lists(
         letter: u64::from(taken[number]),
     };
     comparison(found, kept.map(record).collect(), &sequence)
+}
+
+/// Fails where what SAME left is not PROVED.
+#[track_caller]
+fn assert_proved(question: &Question, checked: PbChecked) {
+    let found = (u64::from(checked.answer), checked.place);
+    assert_eq!(found, (PROVED, 0), "what SAME left of {question:?}");
 }
 
 /// The answer to one sequence judged from one set.

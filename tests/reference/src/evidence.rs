@@ -43,9 +43,9 @@ fn check_list(lefts: &[u64], rights: &[u64]) -> Result<(), u64> {
     fits.then_some(()).ok_or(BAD_LIST)
 }
 
-/// The place of the fault: the starting pair is looked at before the listed ones.
-fn fault(pattern: &Pattern, start: Pair, pairs: &[Pair]) -> Option<usize> {
-    if !pairs.contains(&start) {
+/// The place of the fault: the starting pair, which has to follow from the list, is looked at before the listed ones.
+fn fault(pattern: &Pattern, (x, y): Pair, pairs: &[Pair]) -> Option<usize> {
+    if !congruent(x, y, pairs) {
         return Some(pairs.len());
     }
     pairs.iter().position(|&pair| !holds(pattern, pair, pairs))

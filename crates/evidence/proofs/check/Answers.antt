@@ -1,4 +1,4 @@
--- `evidence::check` makes the tests, looks for the starting pair, then tries the pairs.
+-- `evidence::check` makes the tests, asks for the starting pair, then tries the pairs.
 use mathlib.Core.Path.{sym}
 use Rattle.evidence.specs.Evidence.Checked.{refuses, not-started, started}
 use Rattle.evidence.proofs.Validity.{offer-valid}
@@ -7,11 +7,11 @@ use Rattle.evidence.proofs.check.Goals as goal
 pub returns-in-Against : goal.returns-in-Against
 returns-in-Against c = refuses (sym c.in-Against.ensures)
 
-pub starts-requires : goal.starts-requires
-starts-requires c = ((offer-valid _).0 (sym c.in_default.ensures)).sides-match
+pub congruent-requires : goal.congruent-requires
+congruent-requires c = ((offer-valid _).0 (sym c.in_default.ensures)).sides-match
 
-pub returns-then-not-starts : goal.returns-then-not-starts
-returns-then-not-starts c = not-started (sym c.in_default.ensures) (c.starts.ensures.complete c.if-not-starts.true)
+pub returns-then-not-congruent : goal.returns-then-not-congruent
+returns-then-not-congruent c = not-started (sym c.in_default.ensures) (c.congruent.ensures.complete c.if-not-congruent.true)
 
 pub by_pairs-requires-clause-states_bound : goal.by_pairs-requires-clause-states_bound
 by_pairs-requires-clause-states_bound c = ((offer-valid _).0 (sym c.in_default.ensures)).pattern.sized.states-fit
@@ -23,4 +23,4 @@ pub by_pairs-requires-clause-lefts_len : goal.by_pairs-requires-clause-lefts_len
 by_pairs-requires-clause-lefts_len c = ((offer-valid _).0 (sym c.in_default.ensures)).sides-match
 
 pub returns : goal.returns
-returns c = started (sym c.in_default.ensures) (c.starts.ensures.sound c.if-not-starts.false) c.by_pairs.ensures
+returns c = started (sym c.in_default.ensures) (c.congruent.ensures.sound c.if-not-congruent.false) c.by_pairs.ensures

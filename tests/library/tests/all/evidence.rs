@@ -1,8 +1,9 @@
 //! Lists of pairs offered as evidence.
 
 use crate::draw::{all_lists, any_question, blank, pattern, small_question, EDGES};
+use library::calls::{self, Lengths};
 use library::faults::{assert_refused_in_order, beyond, of_pattern, Fault};
-use library::{calls, cases, rounds::rounds};
+use library::{cases, rounds::rounds};
 use reference::answers::*;
 use reference::congruence::Pair;
 use reference::evidence::{check, Check, MAX_PAIRS};
@@ -95,7 +96,7 @@ fn assert_equivalent(question: &Question) {
     }
 }
 
-/// Questions that end with SAME and keep something, with their records.
+/// Questions that end with SAME, with their records.
 fn same_questions(seed: u64, count: usize) -> Vec<(Question, Vec<Pair>)> {
     let mut random = Random::new(seed);
     let draw = move |round: usize| match round % 4 {
@@ -110,16 +111,60 @@ fn same_questions(seed: u64, count: usize) -> Vec<(Question, Vec<Pair>)> {
     known
         .chain((0..count).map(draw))
         .filter_map(|question| Some((question.clone(), evidence(&question)?)))
-        .filter(|(_, pairs)| (1..=200).contains(&pairs.len()))
+        .filter(|(_, pairs)| pairs.len() <= 200)
         .collect()
 }
 
-/// Catches a check that wants more of a list than what the walk leaves on SAME,
-/// in whatever order, and the starting pair the other way round let pass.
+/// Catches a check that wants more of a list than what the walk leaves on SAME: the calls fail
+/// where what they left is not PROVED, by records or by lists (`library::calls`).
+#[test]
+fn what_same_left_is_proved_as_it_is() {
+    let mut seen = [0; 2];
+    for (question, pairs) in same_questions(120, rounds(4000)) {
+        let room = pairs.len();
+        let lengths = Lengths {
+            records: room,
+            sequence: room,
+        };
+        let by_records = calls::compare(&question, room as u64, lengths);
+        let by_lists = calls::compare_lists(&question, room as u64, [room; 4], room);
+        assert_eq!((by_records.answer, by_lists.answer), (SAME, SAME));
+        assert_eq!(self::pairs(&by_records), pairs);
+        seen[usize::from(room > 0)] += 1;
+    }
+    assert!(seen[0] > 100 && seen[1] > 1000, "{seen:?}");
+}
+
+/// Catches a set and itself in room 0 that is not PROVED, or that is by pairs which do not hold.
+#[test]
+fn a_set_is_proved_against_itself_by_no_pairs() {
+    let mut random = Random::new(121);
+    let none = Lengths {
+        records: 0,
+        sequence: 0,
+    };
+    for _ in 0..rounds(2000) {
+        let Question { pattern, x, .. } = any_question(&mut random);
+        let question = Question { pattern, x, y: x };
+        let found = calls::compare(&question, 0, none);
+        assert_eq!((found.answer, found.kept), (SAME, 0));
+        assert_eq!(assert_pairs(&question, &[]), PROVED_AT_0);
+        let Pattern { states, finals, .. } = question.pattern;
+        let last = 1 << (states - 1);
+        let differs = (finals & last, 0);
+        if differs.0 != 0 {
+            let found = assert_pairs(&question, &[(x, x), differs]);
+            assert_eq!((found.answer, found.place), (NOT_PROVED, 1));
+        }
+    }
+}
+
+/// Catches a check that wants the list in the walk's order, or the starting pair in its own.
 #[test]
 fn the_records_of_same_are_proved_in_any_order() {
     let mut random = Random::new(114);
-    let questions = same_questions(115, rounds(4000));
+    let mut questions = same_questions(115, rounds(4000));
+    questions.retain(|(_, pairs)| !pairs.is_empty());
     assert!(questions.len() > 1000, "{}", questions.len());
     for (question, mut pairs) in questions {
         assert_eq!(assert_pairs(&question, &pairs), PROVED_AT_0);
@@ -134,11 +179,11 @@ fn the_records_of_same_are_proved_in_any_order() {
             x: y,
             y: x,
         };
-        if !pairs.contains(&(y, x)) {
-            let found = assert_pairs(&turned, &pairs);
-            let wanted = (NOT_PROVED, pairs.len() as u64);
-            assert_eq!((found.answer, found.place), wanted);
+        assert_eq!(assert_pairs(&turned, &pairs), PROVED_AT_0);
+        for pair in &mut pairs {
+            *pair = (pair.1, pair.0);
         }
+        assert_eq!(assert_pairs(&turned, &pairs), PROVED_AT_0);
     }
 }
 
@@ -166,7 +211,9 @@ fn damaged(random: &mut Random, pairs: &[Pair], states: u64) -> Vec<Pair> {
 fn damaged_lists_are_checked_as_the_reference_does() {
     let mut random = Random::new(116);
     let (mut proved, mut failed) = (0, 0);
-    for (question, pairs) in same_questions(117, rounds(4000)) {
+    let mut questions = same_questions(117, rounds(4000));
+    questions.retain(|(_, pairs)| !pairs.is_empty());
+    for (question, pairs) in questions {
         for _ in 0..12 {
             let list = damaged(&mut random, &pairs, question.pattern.states);
             let found = assert_pairs(&question, &list);
@@ -181,7 +228,7 @@ fn damaged_lists_are_checked_as_the_reference_does() {
 }
 
 /// Catches a list that is let pass although the languages differ: the starts are
-/// any sets, and every list has the starting pair.
+/// any sets, and half of the lists have the starting pair.
 #[test]
 fn a_proved_list_means_equal_languages() {
     let mut random = Random::new(118);
@@ -192,8 +239,10 @@ fn a_proved_list_means_equal_languages() {
         let count = random.below(4);
         let mut side = || random.below(1 << states);
         let mut list: Vec<Pair> = (0..count).map(|_| (side(), side())).collect();
-        let at = random.below(count + 1) as usize;
-        list.insert(at, (question.x, question.y));
+        if random.chance(1, 2) {
+            let at = random.below(count + 1) as usize;
+            list.insert(at, (question.x, question.y));
+        }
         if assert_pairs(&question, &list).answer == PROVED {
             assert_equivalent(&question);
             proved += 1;

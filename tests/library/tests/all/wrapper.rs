@@ -110,6 +110,10 @@ fn assert_compare(question: &Question, room: u64, length: usize) {
     let mut records = vec![pressbadger::Record::default(); length];
     let mut sequence = vec![0; length + 1];
     let found = pressbadger::compare(&pattern, *x, *y, room, &mut records, &mut sequence);
+    if let Ok(Compared::Same { records, .. }) = &found {
+        let checked = pressbadger::check_records(&pattern, *x, *y, records);
+        assert!(matches!(checked, Ok(Checked::Proved)), "{question:?}");
+    }
     let wanted = calls::compare(question, room as u64, lengths);
     assert_eq!(comparison(found, of_records), wanted);
     let found = pressbadger::compare_default(&pattern, *x, *y, &mut records, &mut sequence);
@@ -129,6 +133,10 @@ fn assert_compare_lists(question: &Question, room: usize, lengths: [usize; 4]) {
     };
     let mut sequence = vec![0; lefts];
     let found = pressbadger::compare_lists(&lend(pattern), *x, *y, room, lists, &mut sequence);
+    if let Ok(Compared::Same { records, .. }) = &found {
+        let checked = pressbadger::check(&lend(pattern), *x, *y, records.lefts, records.rights);
+        assert!(matches!(checked, Ok(Checked::Proved)), "{question:?}");
+    }
     let wanted = calls::compare_lists(question, room as u64, lengths, lefts);
     assert_eq!(comparison(found, of_columns), wanted);
 }
@@ -506,8 +514,10 @@ fn empty_slices_are_lent_as_nothing() {
     assert_eq!(judge(&pattern, 1, &[]), Ok(Judged::Accept));
     assert_eq!(judge(&pattern, 0, &[]), Ok(Judged::Reject));
     let not_proved = Ok(Checked::NotProved { place: 0 });
-    assert_eq!(check(&pattern, 1, 1, &[], &[]), not_proved);
-    assert_eq!(pressbadger::check_records(&pattern, 1, 1, &[]), not_proved);
+    for (y, wanted) in [(1, Ok(Checked::Proved)), (0, not_proved)] {
+        assert_eq!(check(&pattern, 1, y, &[], &[]), wanted);
+        assert_eq!(pressbadger::check_records(&pattern, 1, y, &[]), wanted);
+    }
     let (records, examined) = (&[][..], 1);
     let same = Compared::Same { records, examined };
     let found = pressbadger::compare(&pattern, 1, 1, 0, &mut [], &mut []);

@@ -1,18 +1,20 @@
 //! The check of evidence: start, order and sides (the scope, §8), records of the walk, and random lists.
 
-use crate::cases::{a, all_of_two_states, b, compare_all, sides};
+use crate::cases::{a, all_of_two_states, b, compare_all, pattern, sides};
 use reference::answers::*;
 use reference::evidence::{check, Check};
+use reference::pattern::Pattern;
 use reference::questions::{question, Question};
 use reference::random::Random;
 use reference::subsets::{equivalence, Verdict};
 
-/// The scope, §8.4: catches a failing pair reported where the starting pair is not listed.
+/// The scope, §8.4: catches a failing pair reported where the starting pair does not follow from the list.
 #[test]
 fn the_starting_pair_is_looked_at_first() {
-    let table: [(&[u64], &[u64], u64, u64); 6] = [
+    let table: [(&[u64], &[u64], u64, u64); 7] = [
         (&[], &[], NOT_PROVED, 0),
-        (&[1, 2], &[2, 4], NOT_PROVED, 2),
+        (&[1], &[2], NOT_PROVED, 1),
+        (&[1, 2], &[2, 4], NOT_PROVED, 0),
         (&[3], &[4], PROVED, 0),
         (&[3, 1], &[4, 2], NOT_PROVED, 1),
         (&[1, 3, 2], &[2, 4, 1], NOT_PROVED, 0),
@@ -24,12 +26,41 @@ fn the_starting_pair_is_looked_at_first() {
     }
 }
 
-/// The scope, §8.3: catches a starting pair found the other way round.
+/// The scope, §8.3: catches a starting pair that has to be listed, or to be listed in its order.
 #[test]
-fn the_starting_pair_counts_in_its_order_only() {
-    let turned = check(&a(), 4, 3, &[3], &[4]);
-    assert_eq!((turned.answer, turned.place), (NOT_PROVED, 1));
-    assert_eq!(check(&a(), 4, 3, &[4], &[3]).answer, PROVED);
+fn the_starting_pair_need_only_be_congruent_by_the_list() {
+    let all = pattern(4, 1, 15, &[1, 2, 4, 8]);
+    let table: [(&Pattern, u64, u64, &[u64], &[u64]); 6] = [
+        (&a(), 3, 4, &[3], &[4]),
+        (&a(), 4, 3, &[3], &[4]),
+        (&a(), 3, 3, &[], &[]),
+        (&a(), 3, 3, &[3], &[4]),
+        (&all, 5, 10, &[1, 4], &[2, 8]),
+        (&all, 1, 4, &[1, 2], &[2, 4]),
+    ];
+    for (pattern, x, y, lefts, rights) in table {
+        let found = check(pattern, x, y, lefts, rights);
+        assert_eq!(
+            (found.answer, found.place),
+            (PROVED, 0),
+            "{x} {y} {lefts:?} {rights:?}"
+        );
+    }
+    // by one pair alone neither the union nor the chain follows
+    for (x, y) in [(5, 10), (1, 4)] {
+        let found = check(&all, x, y, &[1], &[2]);
+        assert_eq!((found.answer, found.place), (NOT_PROVED, 1), "{x} {y}");
+    }
+}
+
+/// The scope, §8.3: catches an empty list that proves more than a set against itself, or less.
+#[test]
+fn an_empty_list_is_evidence_for_equal_sets_alone() {
+    for Question { pattern, x, y } in all_of_two_states(1) {
+        let wanted = if x == y { PROVED } else { NOT_PROVED };
+        let found = check(&pattern, x, y, &[], &[]);
+        assert_eq!((found.answer, found.place), (wanted, 0), "{x} {y}");
+    }
 }
 
 /// The scope, §7.13: catches sides of different length that are taken as far as both go.
@@ -51,25 +82,28 @@ fn successors_need_only_be_congruent_by_the_list() {
 
 /// Catches a check that wants more of a list than what the walk leaves on SAME.
 #[test]
-fn records_of_same_are_evidence_when_any_are_kept() {
+fn records_of_same_are_evidence() {
     let mut random = Random::new(41);
     let drawn = (0..3000).map(|_| {
         let states = random.between(1, 10);
         let letters = random.between(1, 3);
         question(&mut random, states, letters)
     });
-    let mut seen = 0;
+    let mut seen = [0; 2];
     for Question { pattern, x, y } in drawn.chain(all_of_two_states(1)) {
         let question = Question { pattern, x, y };
         let comparison = compare_all(&question);
-        if comparison.answer == SAME && comparison.kept > 0 {
+        if comparison.answer == SAME {
             let (lefts, rights) = sides(&comparison);
             let found = check(&question.pattern, x, y, &lefts, &rights);
             assert_eq!((found.answer, found.place), (PROVED, 0), "{question:?}");
-            seen += 1;
+            seen[usize::from(comparison.kept > 0)] += 1;
         }
     }
-    assert!(seen > 1000, "only {seen} lists were checked");
+    assert!(
+        seen[0] > 100 && seen[1] > 1000,
+        "only {seen:?} lists were checked"
+    );
 }
 
 /// Catches a check that lets a wrong list pass: PROVED means that the languages are equal.
@@ -81,9 +115,11 @@ fn a_proved_list_means_equal_languages() {
         let Question { pattern, x, y } = &question;
         for _ in 0..8 {
             let extra = random.below(3);
+            let listed = random.chance(1, 2);
             let mut side = |first| {
                 let others = (0..extra).map(|_| random.below(4));
-                std::iter::once(first).chain(others).collect::<Vec<u64>>()
+                let start = listed.then_some(first).into_iter();
+                start.chain(others).collect::<Vec<u64>>()
             };
             let (lefts, rights) = (side(*x), side(*y));
             if check(pattern, *x, *y, &lefts, &rights).answer == PROVED {
