@@ -1,4 +1,5 @@
-/* How much stack each export needs: the call is made on a painted stack of its own, and the paint that is gone is counted. */
+/* How much stack each export needs, on a small question and on the largest: the call is made on a painted stack of its own, and the
+ * paint that is gone is counted. The largest is written as a pattern file, too, for the program. */
 #define _XOPEN_SOURCE 700
 #include "pressbadger.h"
 
@@ -13,33 +14,38 @@ static ucontext_t here, there;
 static unsigned char *stack;
 static void (*call)(void);
 
-/* Ten switches: the walk keeps 1,024 pairs, as many as the room allows. */
+/* The question: so many switches, of which the walk keeps 2 to their number. Six are 64 pairs, ten the 1,024 that the room allows. */
+static size_t states, letters, rows_count;
 static uint64_t rows[21 * 10], lefts[PB_MAX_ROOM], rights[PB_MAX_ROOM], read_rows[ROWS], x, y;
 static uint16_t parents[PB_MAX_ROOM];
 static uint8_t taken[PB_MAX_ROOM], sequence[PB_MAX_ROOM], bytes[PB_LONGEST_FILE];
 static pb_record records[PB_MAX_ROOM];
 static size_t length, kept;
 
-static void make_question(void) {
-    for (uint64_t s = 0; s < 21; s++)
-        for (uint64_t a = 0; a < 10; a++)
-            rows[s * 10 + a] = s < 20 && s / 2 == a ? 1ULL << (2 * a + 1) : 1ULL << s;
-    for (uint64_t a = 0; a < 10; a++)
+static void make_question(size_t count) {
+    letters = count;
+    states = 2 * count + 1;
+    rows_count = states * letters;
+    x = 0;
+    y = 1ULL << (states - 1);
+    for (size_t a = 0; a < letters; a++) {
         x |= 1ULL << (2 * a);
-    y = 1ULL << 20;
+        for (size_t s = 0; s < states; s++)
+            rows[s * letters + a] = s < 2 * count && s / 2 == a ? 1ULL << (2 * a + 1) : 1ULL << s;
+    }
 }
 
 static void nothing(void) {}
-static void compare(void) { kept = pb_compare(21, 10, 0, rows, 210, x, y, PB_MAX_ROOM, records, PB_MAX_ROOM, sequence, PB_MAX_ROOM).kept; }
-static void compare_default(void) { kept = pb_compare_default(21, 10, 0, rows, 210, x, y, records, PB_MAX_ROOM, sequence, PB_MAX_ROOM).kept; }
+static void compare(void) { kept = pb_compare(states, letters, 0, rows, rows_count, x, y, PB_MAX_ROOM, records, PB_MAX_ROOM, sequence, PB_MAX_ROOM).kept; }
+static void compare_default(void) { kept = pb_compare_default(states, letters, 0, rows, rows_count, x, y, records, PB_MAX_ROOM, sequence, PB_MAX_ROOM).kept; }
 static void compare_lists(void) {
-    kept = pb_compare_lists(21, 10, 0, rows, 210, x, y, PB_MAX_ROOM, lefts, PB_MAX_ROOM, rights, PB_MAX_ROOM, parents, PB_MAX_ROOM,
+    kept = pb_compare_lists(states, letters, 0, rows, rows_count, x, y, PB_MAX_ROOM, lefts, PB_MAX_ROOM, rights, PB_MAX_ROOM, parents, PB_MAX_ROOM,
                             taken, PB_MAX_ROOM, sequence, PB_MAX_ROOM).kept;
 }
-static void judge(void) { pb_judge(21, 10, 0, rows, 210, x, taken, PB_MAX_ROOM); }
-static void check(void) { pb_check(21, 10, 0, rows, 210, x, y, lefts, kept, rights, kept); }
-static void check_records(void) { pb_check_records(21, 10, 0, rows, 210, x, y, records, kept); }
-static void write_pattern(void) { length = pb_write_pattern(21, 10, 0, rows, 210, x, y, bytes, sizeof bytes).count; }
+static void judge(void) { pb_judge(states, letters, 0, rows, rows_count, x, taken, PB_MAX_ROOM); }
+static void check(void) { pb_check(states, letters, 0, rows, rows_count, x, y, lefts, kept, rights, kept); }
+static void check_records(void) { pb_check_records(states, letters, 0, rows, rows_count, x, y, records, kept); }
+static void write_pattern(void) { length = pb_write_pattern(states, letters, 0, rows, rows_count, x, y, bytes, sizeof bytes).count; }
 static void read_pattern(void) { pb_read_pattern(bytes, length, read_rows, ROWS); }
 
 /* Two texts of 32 open parentheses each and 62 names together. */
@@ -61,6 +67,14 @@ static void make_text(void) {
 
 static void expressions(void) { length = pb_expressions(text, text_length, text, text_length, read_rows, ROWS).states; }
 
+/* What a reader would need that fills a table of its own and then copies it. */
+static void read_into_a_table(void) {
+    uint64_t table[ROWS];
+    pb_pattern read = pb_read_pattern(bytes, length, table, ROWS);
+    if (read.answer == PB_DONE)
+        memcpy(read_rows, table, read.states * read.letters * sizeof *table);
+}
+
 static void on_its_own_stack(void) { call(); }
 
 static size_t used(void (*which)(void)) {
@@ -78,23 +92,41 @@ static size_t used(void (*which)(void)) {
     return STACK - clean;
 }
 
-int main(void) {
+static int write_file(const char *name) {
+    FILE *file = fopen(name, "wb");
+    return file != NULL && fwrite(bytes, 1, length, file) == length && fclose(file) == 0;
+}
+
+int main(int count, char **arguments) {
     static const struct {
         const char *name;
         void (*which)(void);
     } calls[] = {
-        {"pb_compare", compare},       {"pb_compare_default", compare_default}, {"pb_compare_lists", compare_lists},
-        {"pb_judge", judge},           {"pb_check", check},                     {"pb_check_records", check_records},
-        {"pb_write_pattern", write_pattern}, {"pb_read_pattern", read_pattern}, {"pb_expressions", expressions},
+        {"`pb_compare`", compare},
+        {"`pb_compare_default`", compare_default},
+        {"`pb_compare_lists`", compare_lists},
+        {"`pb_judge`", judge},
+        {"`pb_check`", check},
+        {"`pb_check_records`", check_records},
+        {"`pb_write_pattern`", write_pattern},
+        {"`pb_read_pattern`", read_pattern},
+        {"`pb_read_pattern` into a table on the stack, which is then copied", read_into_a_table},
+        {"`pb_expressions`", expressions},
     };
+    enum { CALLS = sizeof calls / sizeof calls[0] };
+    size_t small[CALLS], large[CALLS];
     stack = malloc(STACK);
-    if (stack == NULL)
+    if (stack == NULL || count != 2)
         return 1;
-    make_question();
     make_text();
     size_t none = used(nothing);
-    printf("| export | bytes of stack |\n|---|---|\n");
-    for (size_t i = 0; i < sizeof calls / sizeof calls[0]; i++)
-        printf("| `%s` | %zu |\n", calls[i].name, used(calls[i].which) - none);
-    return 0;
+    make_question(6);
+    for (size_t i = 0; i < CALLS; i++)
+        small[i] = used(calls[i].which) - none;
+    make_question(10);
+    for (size_t i = 0; i < CALLS; i++)
+        large[i] = used(calls[i].which) - none;
+    for (size_t i = 0; i < CALLS; i++)
+        printf("| %s | %zu | %zu |\n", calls[i].name, small[i], large[i]);
+    return write_file(arguments[1]) ? 0 : 1;
 }

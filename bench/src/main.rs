@@ -121,11 +121,15 @@ fn entry_table() {
     println!("| question | records / lists |");
     println!("|---|---|");
     let tiny = questions::switches(1);
+    let short = random_questions(1, 64, Finals::Half);
     let drawn = random_questions(5, 64, Finals::None);
-    let large = questions::switches(10);
-    let cases: [(&str, &[Question], usize); 3] = [
+    let (within, beyond, large) = (questions::switches(6), questions::switches(7), questions::switches(10));
+    let cases: [(&str, &[Question], usize); 6] = [
         ("2 pairs kept", from_ref(&tiny), 2000),
+        ("1000 random automata of 64 states, half of them final", &short, ROUNDS),
         ("1000 random automata of 64 states, none final", &drawn, ROUNDS),
+        ("64 pairs kept", from_ref(&within), 200),
+        ("128 pairs kept", from_ref(&beyond), 200),
         ("1024 pairs kept", from_ref(&large), ROUNDS),
     ];
     for (name, questions, rounds) in cases {

@@ -161,6 +161,7 @@ enum Dealt {
 }
 
 // Deals with candidate number `examined`, which is there, where `kept` records are kept: rules 1 to 4 in their order.
+#[inline(always)]
 fn deal(
     states: usize,
     letters: usize,
@@ -217,6 +218,7 @@ fn deal(
 }
 
 // The walk of a question that is not refused: one candidate after another, until none is left.
+#[inline(always)]
 fn run(
     states: usize,
     letters: usize,
@@ -258,6 +260,7 @@ fn run(
 }
 
 // Compares the sets `x` and `y` of states of a pattern in a given room.
+#[inline(always)]
 pub fn compare(
     states: usize,
     letters: usize,

@@ -1,4 +1,4 @@
--- What the comparison leaves in columns of its own, written as records, is what the comparison over a list of records is to leave. Assumes nothing.
+-- What the comparison leaves in tables of its own, written as records, is what the comparison over a list of records is to leave. Assumes nothing.
 use mathlib.Core.Path.{◌≡◌, refl, sym, ap, ap₂, ◌∙◌}
 use mathlib.Core.List.{List, [], ◌∷◌, map, map-append, Memᴰ}
 use Prim.Native.Nat.{ℕ, zero, suc, ◌≤◌, ◌<◌}
@@ -15,22 +15,25 @@ use Rattle.lent.specs.Lent.{lay}
 use Rattle.lent.proofs.Laying.{lay-none, lay-more, getD-lay}
 use Rattle.sets.specs.Rooms.{maxRoom}
 use Rattle.pattern.specs.Tests.{setTest, shapeTest, masksTest}
-use Rattle.walk.specs.Walk.{Question, Record, keptOf}
+use Rattle.walk.specs.Walk.{Question, Record, Outcome, keptOf, wordOf, Walk}
+use Rattle.walk.specs.Walk.Outcome.{Same, Different, Full}
 use Rattle.walk.specs.Columns.{Field, value, recordBy, Columns, columnsBy, column, recordAt, layColumns, Fit}
 use Rattle.walk.proofs.Columns.{value-by, record-path, fit-at, fit-by}
+use Rattle.walk.specs.Meaning.{Settled}
 use Rattle.walk.proofs.Counts.{counts}
-use Rattle.comparison.specs.Answers.{Lent, Call, roomTest, compareTest, Compared}
+use Rattle.walk.proofs.MoreRoom.{more-room}
+use Rattle.comparison.specs.Answers.{numberOf, Lent, Call, roomTest, compareTest, answerOf, Compared}
 use Rattle.comparison.specs.Answers.Compared.{refuses, walks}
 use Rattle.comparison.specs.Meaning.{Roomy}
 use Rattle.comparison.specs.declared.Answer.{Answer}
-use Rattle.comparison.proofs.Asking.{room-fine, compare-fine}
+use Rattle.comparison.proofs.Asking.{room-fine, compare-fine, refusal-number}
 use Rattle.comparison.proofs.Standing.{laid}
 use Rattle.comparison.proofs.CompareRoom.{kept-is}
 use Rattle.records.specs.declared.PbRecord.{PbRecord}
 use Rattle.records.specs.declared.answers.PbCompared.{PbCompared}
 use Rattle.records.specs.Answers.{compareAnswer}
 use Rattle.records.specs.Records.{written, lentFor, callOn, layRecords, ComparedRecords}
-use Rattle.records.specs.Inner.{filled, Asked}
+use Rattle.records.specs.Inner.{filled, Granted, Asked}
 use Rattle.records.proofs.Agreeing.{column-in}
 
 -- ---- the records that are written
@@ -88,60 +91,74 @@ by-13 : (room : ℕ) (lent : Lent) → Among (13 ∷ []) (roomTest room lent)
 unfolding roomTest
 by-13 room lent = among-each _ _ (λ most. among-need _ _ 13 (Memᴰ.head refl)) _
 
--- ---- the comparison in columns of its own, and over the list
+-- ---- the comparison in tables of its own, and over the list
 
--- what a comparison for a list of records answers, and leaves in columns of its own
-pub record Found (Q : Question) (room : ℕ) (records : List PbRecord) (sequence : List ℕ) (k : PbCompared) (l : Lent) : Type 0 where
-  pub most : k.kept ≤ maxRoom
+-- what a comparison for a list of records answers, and leaves in tables of its own
+pub record Found (Q : Question) (room places : ℕ) (records : List PbRecord) (sequence : List ℕ) (k : PbCompared) (l : Lent) : Type 0 where
+  pub most : k.kept ≤ places
   pub within : k.kept ≤ length records
-  pub compared : ComparedRecords Q room records sequence k (filled l.columns records k.kept) l.sequence
+  pub answered : (places < room → k.answer ≡ 2 → ⊥) → ComparedRecords Q room records sequence k (filled l.columns records k.kept) l.sequence
+  pub full : places < room → k.answer ≡ 2 → (room ≤ maxRoom) × (l.sequence ≡ sequence)
 
--- columns of zeros, as long as the largest room
-abbrev zeros : Columns
-zeros = columnsBy (λ (x : Field). replicate maxRoom 0)
+-- tables of zeros, of so many places
+abbrev zeros : ℕ → Columns
+zeros places = columnsBy (λ (x : Field). replicate places 0)
 
-abbrev pub own : List ℕ → Lent
-own sequence = record { columns = zeros; sequence = sequence }
+abbrev pub own : ℕ → List ℕ → Lent
+own places sequence = record { columns = zeros places; sequence = sequence }
 
-zeros-fit : Fit maxRoom zeros
-zeros-fit = let long = length-replicate {A = ℕ} maxRoom 0 in record { lefts = omega arith; rights = omega arith; parents = omega arith; taken = omega arith }
+zeros-fit : (places : ℕ) → Fit places (zeros places)
+zeros-fit places = let long = length-replicate {A = ℕ} places 0 in record { lefts = omega arith; rights = omega arith; parents = omega arith; taken = omega arith }
 
-module _ (Q : Question) (room : ℕ) (records : List PbRecord) (asks : ℕ) (sequence : List ℕ) (ask : Asked room (length records) asks) where
+-- FULL wrote no sequence
+full-says : (o : Outcome) (sequence : List ℕ) → numberOf (answerOf o) ≡ 2 → lay (wordOf o) sequence ≡ sequence
+full-says (Same kept e) sequence z = absurd (omega (arith, z))
+full-says (Different kept e w) sequence z = absurd (omega (arith, z))
+full-says (Full kept e) sequence z = lay-none sequence
+
+-- an outcome is FULL or settled
+settled-else : (o : Outcome) → (numberOf (answerOf o) ≡ 2 → ⊥) → Settled o
+settled-else (Same kept e) n = tt
+settled-else (Different kept e w) n = tt
+settled-else (Full kept e) n = n refl
+
+module _ (Q : Question) (room places : ℕ) (records : List PbRecord) (asks : ℕ) (sequence : List ℕ) (ask : Asked room places (length records) (length sequence) asks) where
   abbrev inner : Call
-  inner = record { question = Q; room = asks; lent = own sequence }
+  inner = record { question = Q; room = asks; lent = own places sequence }
 
   abbrev outer : Lent
   outer = lentFor records sequence
 
-  room-asked : asks ≤ maxRoom → (asks ≡ room) × (room ≤ length records)
-  room-asked h = cases (dec_le room (length records))
-    where
-      cases : Dec (room ≤ length records) → (asks ≡ room) × (room ≤ length records)
-      cases (yes p) = (ask.enough p, p)
-      cases (no n) = absurd (let z = ask.short (omega (arith, n)) in omega (arith, z, h))
-
-  -- asking for a room in columns of the largest room, and in a list of so many records
-  roomy-outside : Roomy asks (own sequence) → Roomy room outer
+  -- asking for a room in tables of so many places, and in a list of so many records
+  roomy-outside : Roomy asks (own places sequence) → Roomy room outer
   roomy-outside r =
-      let (same, there) = room-asked r.most in
-      record {
-        most = omega (arith, same, r.most);
-        columns-fit = fit-by (λ x. omega (arith, there, column-in records x));
-        sequence-fits = omega (arith, same, r.sequence-fits);
-      }
+      let g = ask.allowed r.most in
+      record { most = g.most; columns-fit = fit-by (λ x. omega (arith, g.records-fit, column-in records x)); sequence-fits = g.sequence-fits }
 
-  roomy-inside : Roomy room outer → Roomy asks (own sequence)
+  granted : Roomy room outer → Granted room (length records) (length sequence)
+  granted r =
+      record { most = r.most; records-fit = omega (arith, fit-at r.columns-fit Field.left, column-in records Field.left); sequence-fits = r.sequence-fits }
+
+  -- as much of the room as there are places
+  asked-most : Granted room (length records) (length sequence) → (asks ≤ places) × (asks ≤ room)
+  asked-most g = cases (dec_le room places)
+    where
+      cases : Dec (room ≤ places) → (asks ≤ places) × (asks ≤ room)
+      cases (yes p) = let e = ask.whole g p in (omega (arith, e, p), omega (arith, e))
+      cases (no n) = let e = ask.part g (omega (arith, n)) in (omega (arith, e), omega (arith, e, n))
+
+  roomy-inside : Roomy room outer → Roomy asks (own places sequence)
   roomy-inside r =
-      let same = ask.enough (omega (arith, fit-at r.columns-fit Field.left, column-in records Field.left)) in
+      let (some, less) = asked-most (granted r) in
       record {
-        most = omega (arith, same, r.most);
-        columns-fit = fit-by (λ x. omega (arith, same, r.most, fit-at zeros-fit x));
-        sequence-fits = omega (arith, same, r.sequence-fits);
+        most = omega (arith, less, r.most);
+        columns-fit = fit-by (λ x. omega (arith, some, fit-at (zeros-fit places) x));
+        sequence-fits = omega (arith, less, r.sequence-fits);
       }
 
-  rooms-alike : roomTest asks (own sequence) ≡ roomTest room outer
+  rooms-alike : roomTest asks (own places sequence) ≡ roomTest room outer
   rooms-alike =
-      alike 13 _ _ (by-13 asks (own sequence)) (by-13 room outer)
+      alike 13 _ _ (by-13 asks (own places sequence)) (by-13 room outer)
       (λ f. (room-fine _ _).1 (roomy-outside ((room-fine _ _).0 f))) (λ f. (room-fine _ _).1 (roomy-inside ((room-fine _ _).0 f)))
 
   tests-alike : compareTest inner ≡ compareTest (callOn Q room records sequence)
@@ -150,18 +167,39 @@ module _ (Q : Question) (room : ℕ) (records : List PbRecord) (asks : ℕ) (seq
       let P = Q.pattern in
       ap (λ (v : Verdict). inOrder (shapeTest P ∷ v ∷ masksTest P ∷ setTest P.states Q.left ∷ setTest P.states Q.right ∷ [])) rooms-alike
 
-  found : {a : Answer} {l : Lent} → Compared inner a l → Found Q room records sequence (compareAnswer a) l
-  found (refuses e) = record { most = omega arith; within = omega arith; compared = ComparedRecords.refuses (sym tests-alike ∙ e) }
+  -- in fewer places than the room, what is not FULL is the walk's outcome in the room
+  walk-asked : Granted room (length records) (length sequence) → {o : Outcome} → Walk Q asks o → (places < room → numberOf (answerOf o) ≡ 2 → ⊥) → Walk Q room o
+  walk-asked g {o} w n = cases (dec_le room places)
+    where
+      cases : Dec (room ≤ places) → Walk Q room o
+      cases (yes p) = rw (ask.whole g p) at w
+      cases (no p) = more-room room (asked-most g).1 (settled-else o (n (omega (arith, p)))) w
+
+  found : {a : Answer} {l : Lent} → Compared inner a l → Found Q room places records sequence (compareAnswer a) l
+  found (refuses e) =
+      record {
+        most = omega arith;
+        within = omega arith;
+        answered = λ n. ComparedRecords.refuses (sym tests-alike ∙ e);
+        full = λ h z. absurd (omega (arith, refusal-number inner e, z));
+      }
   found (walks {o} e w) =
       let (proper, roomy) = (compare-fine inner).0 e in
-      let (asked, there) = room-asked roomy.most in
+      let g = ask.allowed roomy.most in
+      let (some, less) = asked-most g in
       let kept = kept-is o in
       let fits = (counts proper.valid.sized w).fits in
-      let c = layColumns (keptOf o) zeros in
-      let all = ap (filled c records) kept ∙ filled-is c (keptOf o) records (laid-has (keptOf o) zeros) (omega arith) in
-      record { most = omega arith; within = omega arith; compared = rw all (ComparedRecords.walks (sym tests-alike ∙ e) (rw asked at w)) }
+      let c = layColumns (keptOf o) (zeros places) in
+      let all = ap (filled c records) kept ∙ filled-is c (keptOf o) records (laid-has (keptOf o) (zeros places)) (omega (arith, fits, less, g.records-fit)) in
+      record {
+        most = omega (arith, kept, fits, some);
+        within = omega (arith, kept, fits, less, g.records-fit);
+        answered = λ n. rw all (ComparedRecords.walks (sym tests-alike ∙ e) (walk-asked g w n));
+        full = λ h z. (g.most, full-says o sequence z);
+      }
 
 -- the same, by the answer as a host reads it
-pub finding : {Q : Question} {room : ℕ} {records : List PbRecord} {asks : ℕ} {sequence : List ℕ} {a : Answer} {l : Lent} {k : PbCompared} → k ≡ compareAnswer a
-    → Compared (record { question = Q; room = asks; lent = own sequence }) a l → Asked room (length records) asks → Found Q room records sequence k l
-finding e z ask = rw e (found _ _ _ _ _ ask z)
+pub finding : {Q : Question} {room places : ℕ} {records : List PbRecord} {asks : ℕ} {sequence : List ℕ} {a : Answer} {l : Lent} {k : PbCompared} → k ≡ compareAnswer a
+    → Compared (record { question = Q; room = asks; lent = own places sequence }) a l → Asked room places (length records) (length sequence) asks
+    → Found Q room places records sequence k l
+finding e z ask = rw e (found _ _ _ _ _ _ ask z)

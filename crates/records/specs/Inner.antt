@@ -1,17 +1,32 @@
 -- What the contracts of the functions beneath the exports cite. No promise to a host rests on this file.
---   Asked        the room that is asked for, where the list has so many records
+--   Asked        the room that is asked for in tables of so many places, where the list has so many records and the sequence so many bytes
+--   Tried        the comparison in tables of so many places
 --   asColumns    four lists of numbers as columns; filled: the first of their records written over a list
 --   Shown        how many records of a list are looked at; Gathers: the sides of so many
 use Rattle.std.specs.Prelude.{◌≡◌, List, ℕ, zero, suc, ◌+◌, ◌≤◌, ◌<◌, set, take}
 use Rattle.sets.specs.Rooms.{maxRoom}
+use Rattle.walk.specs.Walk.{Question}
 use Rattle.walk.specs.Columns.{Columns, recordAt}
 use Rattle.records.specs.declared.PbRecord.{PbRecord}
-use Rattle.records.specs.Records.{written, columnsIn}
+use Rattle.records.specs.declared.answers.PbCompared.{PbCompared}
+use Rattle.records.specs.Records.{written, columnsIn, ComparedRecords}
 
--- where the list is too short, a room that is refused
-pub record Asked (room listed r : ℕ) : Type 0 where
-  pub enough : room ≤ listed → r ≡ room
-  pub short : listed < room → r ≡ maxRoom + 1
+-- a room that is allowed and lent
+pub record Granted (room listed bytes : ℕ) : Type 0 where
+  pub most : room ≤ maxRoom
+  pub records-fit : room ≤ listed
+  pub sequence-fits : room ≤ bytes
+
+-- refused where the room itself is to be; else as much of the room as there are places
+pub record Asked (room places listed bytes r : ℕ) : Type 0 where
+  pub allowed : r ≤ maxRoom → Granted room listed bytes
+  pub whole : Granted room listed bytes → room ≤ places → r ≡ room
+  pub part : Granted room listed bytes → places < room → r ≡ places
+
+-- FULL in fewer places than the room says nothing of it, and changes nothing that is lent; any other answer is the one in the room
+pub record Tried (Q : Question) (room places : ℕ) (records : List PbRecord) (sequence : List ℕ) (r : PbCompared) (later : List PbRecord) (word : List ℕ) : Type 0 where
+  pub answered : (places < room → r.answer ≡ 2 → ⊥) → ComparedRecords Q room records sequence r later word
+  pub full : places < room → r.answer ≡ 2 → (room ≤ maxRoom) × (later ≡ records) × (word ≡ sequence)
 
 abbrev pub asColumns : List ℕ → List ℕ → List ℕ → List ℕ → Columns
 asColumns lefts rights parents taken = record { lefts = lefts; rights = rights; parents = parents; taken = taken }

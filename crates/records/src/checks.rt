@@ -1,12 +1,13 @@
-// The check of a list of records: its two sides gathered, and checked.
-ghost use Rattle.std.specs.Prelude.{◌≤◌, length};
+// The check of a list of records: its two sides gathered in tables of its own, small ones where they are enough, and checked.
+ghost use Rattle.std.specs.Prelude.{◌+◌, ◌≤◌, length};
+ghost use Rattle.sets.specs.Rooms.{maxRoom};
 ghost use Rattle.evidence.specs.Evidence.{offerOf};
 ghost use Rattle.records.specs.Answers.{CheckedOffer};
 ghost use Rattle.records.specs.Records.{columnsIn};
 ghost use Rattle.records.specs.Inner.{Shown, Gathers};
 
-use crate::PbRecord;
 use crate::answers::PbChecked;
+use crate::{PbRecord, SMALL_ROOM};
 use sets::States;
 
 // One more than a list may have: enough for the check to refuse it in its own order.
@@ -35,8 +36,9 @@ fn gather(records: &[PbRecord], n: usize, lefts: &mut [u64], rights: &mut [u64])
     }
 }
 
-// Checks the pairs of a list of records as evidence that the sets `x` and `y` have one language.
-pub fn check(
+// Checks the first `n` records, of which so many are looked at, in sides of its own, of so many places.
+#[inline(never)]
+fn check_in<const PLACES: usize>(
     states: usize,
     letters: usize,
     finals: u64,
@@ -44,12 +46,15 @@ pub fn check(
     x: u64,
     y: u64,
     records: &[PbRecord],
+    n: usize,
 ) -> PbChecked
+    requires places_most { PLACES ≤ maxRoom + 1 }
+    requires sides_fit { n ≤ PLACES }
+    requires shown { Shown (length records.now) n }
     ensures { CheckedOffer (offerOf states letters finals rows.now x y (columnsIn records.now).lefts (columnsIn records.now).rights) result }
 {
-    let mut lefts = [0u64; MOST_SHOWN];
-    let mut rights = [0u64; MOST_SHOWN];
-    let n = shown(records.len());
+    let mut lefts = [0u64; PLACES];
+    let mut rights = [0u64; PLACES];
     gather(records, n, &mut lefts, &mut rights);
     let answer = evidence::check(
         states,
@@ -62,4 +67,23 @@ pub fn check(
         &rights[..n],
     );
     crate::answers::check_answer(answer)
+}
+
+// Checks the pairs of a list of records as evidence that the sets `x` and `y` have one language.
+pub fn check(
+    states: usize,
+    letters: usize,
+    finals: u64,
+    rows: &[u64],
+    x: u64,
+    y: u64,
+    records: &[PbRecord],
+) -> PbChecked
+    ensures { CheckedOffer (offerOf states letters finals rows.now x y (columnsIn records.now).lefts (columnsIn records.now).rights) result }
+{
+    let n = shown(records.len());
+    if n <= SMALL_ROOM {
+        return check_in::<SMALL_ROOM>(states, letters, finals, rows, x, y, records, n);
+    }
+    check_in::<MOST_SHOWN>(states, letters, finals, rows, x, y, records, n)
 }

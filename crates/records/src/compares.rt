@@ -1,20 +1,27 @@
-// The comparison over a list of records: made in columns of its own, which are then written as records.
+// The comparison over a list of records: made in tables of its own, small ones first, and written as records.
 ghost use Rattle.std.specs.Prelude.{◌≡◌, ◌≤◌, length};
+ghost use Rattle.sets.specs.Rooms.{maxRoom};
 ghost use Rattle.walk.specs.Walk.{questionOf};
 ghost use Rattle.walk.specs.Columns.{Fit};
 ghost use Rattle.records.specs.Records.{ComparedRecords};
-ghost use Rattle.records.specs.Inner.{asColumns, filled, Asked};
+ghost use Rattle.records.specs.Inner.{asColumns, filled, Asked, Tried};
 
-use crate::PbRecord;
 use crate::answers::PbCompared;
+use crate::{PbRecord, SMALL_ROOM};
 use sets::States;
 
-// The room to ask for: where the list is shorter than the room, one that the comparison refuses in its own order.
-fn asked(room: usize, listed: usize) -> usize
-    ensures { Asked room listed result }
+// The number of FULL.
+const FULL: u8 = 2;
+
+// The room to ask for in tables of so many places: as much as they have, and one that is refused where the room itself is to be.
+fn asked(room: usize, places: usize, listed: usize, bytes: usize) -> usize
+    ensures { Asked room places listed bytes result }
 {
-    if listed < room {
+    if room > States::MAX_ROOM || listed < room || bytes < room {
         return States::MAX_ROOM + 1;
+    }
+    if places < room {
+        return places;
     }
     room
 }
@@ -42,8 +49,9 @@ fn fill(
     }
 }
 
-// Compares the sets `x` and `y` in a given room, and writes the records that are kept.
-pub fn compare(
+// Compares in tables of its own, of so many places, and writes the records that are kept; none where the tables are full and the room is not.
+#[inline(never)]
+fn compare_in<const PLACES: usize>(
     states: usize,
     letters: usize,
     finals: u64,
@@ -54,13 +62,14 @@ pub fn compare(
     records: &mut [PbRecord],
     sequence: &mut [u8],
 ) -> PbCompared
-    ensures { ComparedRecords (questionOf states letters finals rows.now x y) room records.old sequence.old result records.new sequence.new }
+    requires { PLACES ≤ maxRoom }
+    ensures { Tried (questionOf states letters finals rows.now x y) room PLACES records.old sequence.old result records.new sequence.new }
 {
-    let mut lefts = [0u64; States::MAX_ROOM];
-    let mut rights = [0u64; States::MAX_ROOM];
-    let mut parents = [0u16; States::MAX_ROOM];
-    let mut taken = [0u8; States::MAX_ROOM];
-    let asks = asked(room, records.len());
+    let mut lefts = [0u64; PLACES];
+    let mut rights = [0u64; PLACES];
+    let mut parents = [0u16; PLACES];
+    let mut taken = [0u8; PLACES];
+    let asks = asked(room, PLACES, records.len(), sequence.len());
     let answer = comparison::compare(
         states,
         letters,
@@ -76,6 +85,34 @@ pub fn compare(
         sequence,
     );
     let compared = crate::answers::compare_answer(answer);
+    if PLACES < room && compared.answer == FULL {
+        return compared;
+    }
     fill(&lefts, &rights, &parents, &taken, compared.kept, records);
+    compared
+}
+
+// Compares the sets `x` and `y` in a given room, and writes the records that are kept.
+pub fn compare(
+    states: usize,
+    letters: usize,
+    finals: u64,
+    rows: &[u64],
+    x: u64,
+    y: u64,
+    room: usize,
+    records: &mut [PbRecord],
+    sequence: &mut [u8],
+) -> PbCompared
+    ensures { ComparedRecords (questionOf states letters finals rows.now x y) room records.old sequence.old result records.new sequence.new }
+{
+    let mut compared = compare_in::<SMALL_ROOM>(
+        states, letters, finals, rows, x, y, room, records, sequence,
+    );
+    if SMALL_ROOM < room && compared.answer == FULL {
+        compared = compare_in::<{ States::MAX_ROOM }>(
+            states, letters, finals, rows, x, y, room, records, sequence,
+        );
+    }
     compared
 }

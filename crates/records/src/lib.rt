@@ -5,6 +5,9 @@ pub mod answers; // answers.rt: the answers as a host reads them
 pub mod checks; // checks.rt: the check of a list of records
 pub mod compares; // compares.rt: the comparison over a list of records
 
+// The places of the small tables: most questions keep fewer pairs.
+const SMALL_ROOM: usize = 64;
+
 // A kept record.
 #[repr(C)]
 #[derive(Clone, Copy)]

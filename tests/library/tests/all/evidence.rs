@@ -261,10 +261,10 @@ fn a_failing_pair_is_found_wherever_it_stands() {
         x: 3,
         y: 4,
     };
-    for length in [1usize, 2, 3, 255, 256, 257, 1024] {
+    for length in [1usize, 2, 3, 64, 65, 255, 256, 257, 1024] {
         let mut list = vec![(3, 4); length];
         assert_eq!(assert_pairs(&right, &list), PROVED_AT_0);
-        for place in [0, 1, 2, 254, 255, 256, 1022, 1023] {
+        for place in [0, 1, 2, 63, 64, 254, 255, 256, 1022, 1023] {
             if place < length {
                 let old = std::mem::replace(&mut list[place], (1, 2));
                 let found = assert_pairs(&right, &list);
@@ -285,7 +285,7 @@ fn a_list_has_at_most_1024_pairs_and_two_equal_sides() {
         x: 3,
         y: 4,
     };
-    let lengths = [0, 1, 2, 1023, MAX_PAIRS, MAX_PAIRS + 1, 3000];
+    let lengths = [0, 1, 2, 64, 65, 1023, MAX_PAIRS, MAX_PAIRS + 1, 3000];
     for left in lengths {
         for side in lengths {
             let found = assert_checked(&right, &vec![3; left], &vec![4; side]);

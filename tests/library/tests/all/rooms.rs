@@ -7,7 +7,7 @@ use library::faults::{assert_refused_in_order, beyond, of_pattern, Fault};
 use library::rounds::rounds;
 use reference::answers::*;
 use reference::pattern::Pattern;
-use reference::questions::Question;
+use reference::questions::{long_way, Question};
 use reference::random::Random;
 use reference::subsets::sets_reached;
 use reference::walk::MAX_ROOM;
@@ -54,6 +54,25 @@ fn a_room_one_less_than_the_sets_reached_is_never_full() {
         exact += usize::from(found.kept == room);
     }
     assert!(exact > 300, "{exact}");
+}
+
+/// Catches a FULL of the library's small tables given for a larger room, what they hold
+/// cut or written where it is not the answer, and an answer that is one pair off.
+#[test]
+fn around_64_pairs_a_room_answers_as_any_other() {
+    for needed in 62..=67 {
+        let question = long_way(needed);
+        for room in (62..=68).chain([127, 128, 129, MAX_ROOM]) {
+            let found = compared(&question, room);
+            let wanted = match needed <= room {
+                true => [DIFFERENT, needed, needed],
+                false => [FULL, room, 0],
+            };
+            assert_eq!([found.answer, found.kept, found.length], wanted);
+            let longer = both(room as usize + 70);
+            assert_eq!(assert_compared(&question, room, longer), found);
+        }
+    }
 }
 
 /// A call of the comparison: the lengths are those of four lists and of the sequence.
@@ -135,7 +154,7 @@ fn every_fault_of_a_comparison_is_refused_in_order() {
         }),
     ]);
     let order = [BAD_SIZE, BAD_TABLE, BAD_ROOM, BAD_SET];
-    for (pattern, room) in [(blank(3, 1), 1), (blank(62, 32), 1024)] {
+    for (pattern, room) in [(blank(3, 1), 1), (blank(3, 1), 65), (blank(62, 32), 1024)] {
         let question = Question {
             pattern,
             x: 1,
@@ -159,8 +178,8 @@ fn lists_are_judged_by_the_room_asked_for() {
         x: 1,
         y: 1,
     };
-    for room in [0, 1, 2, 255, 256, 257, 1023, 1024, 1025] {
-        for length in [0, 1, 2, 254, 255, 256, 257, 1022, 1023, 1024, 1025] {
+    for room in [0, 1, 2, 64, 65, 255, 256, 257, 1023, 1024, 1025] {
+        for length in [0, 1, 2, 63, 64, 65, 254, 255, 256, 257, 1022, 1023, 1024, 1025] {
             let wanted = match length >= room && room <= MAX_ROOM {
                 true => SAME,
                 false => BAD_ROOM,
