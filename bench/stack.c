@@ -42,6 +42,11 @@ static void compare_lists(void) {
     kept = pb_compare_lists(states, letters, 0, rows, rows_count, x, y, PB_MAX_ROOM, lefts, PB_MAX_ROOM, rights, PB_MAX_ROOM, parents, PB_MAX_ROOM,
                             taken, PB_MAX_ROOM, sequence, PB_MAX_ROOM).kept;
 }
+static void within(void) { kept = pb_within(states, letters, 0, rows, rows_count, x, y, PB_MAX_ROOM, records, PB_MAX_ROOM, sequence, PB_MAX_ROOM).kept; }
+static void within_lists(void) {
+    kept = pb_within_lists(states, letters, 0, rows, rows_count, x, y, PB_MAX_ROOM, lefts, PB_MAX_ROOM, rights, PB_MAX_ROOM, parents, PB_MAX_ROOM,
+                           taken, PB_MAX_ROOM, sequence, PB_MAX_ROOM).kept;
+}
 static void judge(void) { pb_judge(states, letters, 0, rows, rows_count, x, taken, PB_MAX_ROOM); }
 static void check(void) { pb_check(states, letters, 0, rows, rows_count, x, y, lefts, kept, rights, kept); }
 static void check_records(void) { pb_check_records(states, letters, 0, rows, rows_count, x, y, records, kept); }
@@ -112,6 +117,8 @@ int main(int count, char **arguments) {
         {"`pb_read_pattern`", read_pattern},
         {"`pb_read_pattern` into a table on the stack, which is then copied", read_into_a_table},
         {"`pb_expressions`", expressions},
+        {"`pb_within`", within},
+        {"`pb_within_lists`", within_lists},
     };
     enum { CALLS = sizeof calls / sizeof calls[0] };
     size_t small[CALLS], large[CALLS];

@@ -89,6 +89,22 @@ def checklist():
     return question((missing, missing, listed), (["in work"], ["in work"], always), letters=11)
 
 
+def second_sample():
+    """After a dry hopping two samples were wanted, and now one is; is anything refused that was accepted?"""
+    before = {
+        "no hops": {"DRYHOP": ["hopped"], OTHER: ["no hops"]},
+        "hopped": {"SAMPLE": ["sampled"], OTHER: ["hopped"]},
+        "sampled": {"SAMPLE": ["ready"], "DRYHOP": ["hopped"], "WARM": ["hopped"], OTHER: ["sampled"]},
+        "ready": {"DRYHOP": ["hopped"], "WARM": ["hopped"], OTHER: ["ready"]},
+    }
+    after = {
+        "no hops'": {"DRYHOP": ["hopped'"], OTHER: ["no hops'"]},
+        "hopped'": {"SAMPLE": ["ready'"], OTHER: ["hopped'"]},
+        "ready'": {"DRYHOP": ["hopped'"], "WARM": ["hopped'"], OTHER: ["ready'"]},
+    }
+    return question((["no hops"], ["ready"], before), (["no hops'"], ["ready'"], after))
+
+
 def first_answer():
     """The example of the scope: three states and one letter."""
     return bytes([0x03, 0x01, 0x05, 0x02, 0x01, 0x04, 0x01, 0x04])
@@ -99,6 +115,7 @@ EXAMPLES = {
     "stable-gravity": stable_gravity,
     "recent-drop": recent_drop,
     "checklist": checklist,
+    "second-sample": second_sample,
 }
 
 

@@ -71,6 +71,8 @@ enum {
     PB_PROVED = 5,
     PB_NOT_PROVED = 6,
     PB_DONE = 7,
+    PB_WITHIN = 8,
+    PB_NOT_WITHIN = 9,
     PB_BAD_SIZE = 10,   /* states or letters outside its range */
     PB_BAD_TABLE = 11,  /* rows_count is not states * letters */
     PB_BAD_SET = 12,    /* a mask has a bit `states` or above: finals, a row, or a set that is given */
@@ -102,7 +104,7 @@ typedef struct {
 } pb_record;
 
 typedef struct {
-    uint8_t answer; /* PB_SAME, PB_DIFFERENT, PB_FULL, or a refusal */
+    uint8_t answer; /* PB_SAME, PB_DIFFERENT, PB_FULL, or a refusal; of pb_within PB_WITHIN, PB_NOT_WITHIN, .. */
     size_t kept;
     size_t examined;
     size_t length;
@@ -192,6 +194,36 @@ pb_compared pb_compare_lists(size_t states, size_t letters, uint64_t finals,
                              uint16_t *parents, size_t parents_count,
                              uint8_t *taken, size_t taken_count,
                              uint8_t *sequence, size_t sequence_count);
+
+/* The one-way question: is every event sequence that is accepted from x accepted from y? So whoever loosens
+ * a pattern on purpose asks whether nothing that was accepted before, from x, is now refused, from y.
+ *   PB_WITHIN      it is. length is 0.
+ *   PB_NOT_WITHIN  sequence[0 .. length-1] is accepted from x and not from y; length may be 0.
+ *   PB_FULL        the room ran out, and nothing is known: kept is the room, length is 0.
+ * It is the comparison of x | y with y, and all else is as that comparison's: kept and examined, the records
+ * (record 0 is x | y and y), the sequence, what more room changes, and that a room as large as the number of
+ * distinct sets that sequences lead to from x | y or y never gives PB_FULL. x and y themselves may be SAME
+ * in a room where this is PB_FULL. Refusals: 10, 11, 13, 12, where pb_compare gives them for x and y.
+ * What PB_WITHIN left, also where it is nothing, is evidence of x | y and y, and PROVED of these two, whoever
+ * wrote the list, means that everything accepted from x is accepted from y:
+ *     pb_check_records(states, letters, finals, rows, rows_count, x | y, y, records, kept).answer == PB_PROVED
+ * There is no short form: the room is always named. Stack: as for pb_compare. */
+pb_compared pb_within(size_t states, size_t letters, uint64_t finals,
+                      const uint64_t *rows, size_t rows_count,
+                      uint64_t x, uint64_t y, size_t room,
+                      pb_record *records, size_t records_count,
+                      uint8_t *sequence, size_t sequence_count);
+
+/* The same for a host with little stack, with lists as pb_compare_lists has them, and pb_check for the
+ * evidence. Stack: about 300 bytes. */
+pb_compared pb_within_lists(size_t states, size_t letters, uint64_t finals,
+                            const uint64_t *rows, size_t rows_count,
+                            uint64_t x, uint64_t y, size_t room,
+                            uint64_t *lefts, size_t lefts_count,
+                            uint64_t *rights, size_t rights_count,
+                            uint16_t *parents, size_t parents_count,
+                            uint8_t *taken, size_t taken_count,
+                            uint8_t *sequence, size_t sequence_count);
 
 /* Judges one sequence from one set: PB_ACCEPT where it leads to a final state, else PB_REJECT.
  * Refusals: 10, 11, 12, 15. Nothing is written. Stack: about 100 bytes. */

@@ -121,6 +121,47 @@ static void takes_the_default(void) {
           "the short form");
 }
 
+/* The one-way question of A, with what it leaves: each way, in a room that is too small, and refused. */
+static void asks_one_way(void) {
+    const pb_compared within = {PB_WITHIN, 2, 3, 0}, not_within = {PB_NOT_WITHIN, 1, 2, 1}, full = {PB_FULL, 1, 2, 0},
+                      bad_room = {PB_BAD_ROOM, 0, 0, 0}, bad_set = {PB_BAD_SET, 0, 0, 0};
+    const pb_record left[] = {{5, 4, 0, 0}, {6, 4, 0, 0}};
+    pb_record records[GUARD + LENT + GUARD];
+    uint8_t sequence[GUARD + LENT + GUARD];
+    for (size_t i = 0; i < GUARD + LENT + GUARD; i++) {
+        records[i] = UNTOUCHED;
+        sequence[i] = UNTOUCHED_BYTE;
+    }
+    check(same_compared(pb_within(3, 1, 5, A, 3, 1, 4, 3, records + GUARD, 2, sequence + GUARD, LENT), bad_room), "a short list");
+    check(same_compared(pb_within(3, 1, 5, A, 3, 8, 4, 2, records + GUARD, 2, sequence + GUARD, LENT), bad_set), "state 3 in x");
+    check(same_compared(pb_within(3, 1, 5, A, 3, 1, 8, 2, records + GUARD, 2, sequence + GUARD, LENT), bad_set), "state 3 in y");
+    check(same_record(records[GUARD], UNTOUCHED), "a refusal changes nothing");
+    pb_compared c = pb_within(3, 1, 5, A, 3, 1, 4, 2, records + GUARD, LENT, sequence + GUARD, LENT);
+    check(same_compared(c, within), "all that 1 accepts, 4 accepts");
+    for (size_t i = 0; i < GUARD + LENT + GUARD; i++) {
+        int written = i >= GUARD && i < GUARD + c.kept;
+        check(same_record(records[i], written ? left[i - GUARD] : UNTOUCHED), "its records, and no other place");
+        check(sequence[i] == UNTOUCHED_BYTE, "and no sequence");
+    }
+    check(pb_check_records(3, 1, 5, A, 3, 1 | 4, 4, records + GUARD, c.kept).answer == PB_PROVED, "they are evidence of both and 4");
+    check(pb_check_records(3, 1, 5, A, 3, 1, 4, records + GUARD, c.kept).answer == PB_NOT_PROVED, "and not of 1 and 4");
+    check(same_compared(pb_within(3, 1, 5, A, 3, 1, 4, 1, records + GUARD, LENT, sequence + GUARD, LENT), full), "one place is too few");
+    c = pb_within(3, 1, 5, A, 3, 4, 1, 2, records + GUARD, LENT, sequence + GUARD, LENT);
+    check(same_compared(c, not_within) && sequence[GUARD] == 0 && sequence[GUARD + 1] == UNTOUCHED_BYTE, "4 accepts one letter, and 1 does not");
+    check(pb_judge(3, 1, 5, A, 3, 4, sequence + GUARD, c.length).answer == PB_ACCEPT, "its sequence from 4");
+    check(pb_judge(3, 1, 5, A, 3, 1, sequence + GUARD, c.length).answer == PB_REJECT, "and from 1");
+    uint64_t lefts[2], rights[2];
+    uint16_t parents[2];
+    uint8_t taken[2], letters[2];
+    c = pb_within_lists(3, 1, 5, A, 3, 1, 4, 2, lefts, 2, rights, 2, parents, 2, taken, 2, letters, 2);
+    check(same_compared(c, within), "lists answer as records do");
+    for (size_t i = 0; i < c.kept; i++) {
+        pb_record r = {lefts[i], rights[i], parents[i], taken[i]};
+        check(same_record(r, left[i]), "lists hold what records hold");
+    }
+    check(pb_check(3, 1, 5, A, 3, 1 | 4, 4, lefts, c.kept, rights, c.kept).answer == PB_PROVED, "and they are evidence too");
+}
+
 static void judges(void) {
     const uint8_t read[] = {0}, worse[] = {0, 1};
     check(pb_judge(3, 1, 5, A, 3, 1, read, 0).answer == PB_ACCEPT, "the empty sequence from 1");
@@ -228,6 +269,7 @@ int main(void) {
         compares(&known[i]);
     refuses();
     takes_the_default();
+    asks_one_way();
     judges();
     checks();
     files();

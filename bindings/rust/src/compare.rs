@@ -163,6 +163,18 @@ pub struct Lists<'lent> {
     pub taken: &'lent mut [u8],
 }
 
+impl<'lent> Lists<'lent> {
+    /// The first records of the columns.
+    pub(crate) fn written(self, kept: usize) -> Columns<'lent> {
+        Columns {
+            lefts: &self.lefts[..kept],
+            rights: &self.rights[..kept],
+            parents: &self.parents[..kept],
+            taken: &self.taken[..kept],
+        }
+    }
+}
+
 /// Kept records column by column: record i is entry i of each.
 #[derive(Clone, Copy, Debug, PartialEq, Eq)]
 pub struct Columns<'lent> {
@@ -209,12 +221,6 @@ pub fn compare_lists<'lent>(
             sequence.len(),
         )
     };
-    let kept = compared.kept;
-    let columns = Columns {
-        lefts: &lists.lefts[..kept],
-        rights: &lists.rights[..kept],
-        parents: &lists.parents[..kept],
-        taken: &lists.taken[..kept],
-    };
+    let columns = lists.written(compared.kept);
     answered(compared, columns, sequence)
 }

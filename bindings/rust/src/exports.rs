@@ -104,6 +104,42 @@ extern "C" {
         sequence_count: usize,
     ) -> PbCompared;
 
+    pub fn pb_within(
+        states: usize,
+        letters: usize,
+        finals: u64,
+        rows: *const u64,
+        rows_count: usize,
+        x: u64,
+        y: u64,
+        room: usize,
+        records: *mut Record,
+        records_count: usize,
+        sequence: *mut u8,
+        sequence_count: usize,
+    ) -> PbCompared;
+
+    pub fn pb_within_lists(
+        states: usize,
+        letters: usize,
+        finals: u64,
+        rows: *const u64,
+        rows_count: usize,
+        x: u64,
+        y: u64,
+        room: usize,
+        lefts: *mut u64,
+        lefts_count: usize,
+        rights: *mut u64,
+        rights_count: usize,
+        parents: *mut u16,
+        parents_count: usize,
+        taken: *mut u8,
+        taken_count: usize,
+        sequence: *mut u8,
+        sequence_count: usize,
+    ) -> PbCompared;
+
     pub fn pb_judge(
         states: usize,
         letters: usize,

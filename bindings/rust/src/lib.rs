@@ -16,6 +16,7 @@ mod evidence;
 mod exports;
 mod expressions;
 mod file;
+mod inclusion;
 mod judge;
 mod pattern;
 mod refusal;
@@ -28,6 +29,7 @@ pub use compare::{
 pub use evidence::{check, check_records, Checked, MAX_PAIRS};
 pub use expressions::{expressions, Expressed, TextRefused, MAX_OPEN};
 pub use file::{read_pattern, write_pattern, PatternRead, LONGEST_FILE, MAX_ROWS};
+pub use inclusion::{within, within_lists, Inclusion};
 pub use judge::{judge, Judged};
 pub use pattern::{Pattern, MAX_LETTERS, MAX_STATES};
 pub use refusal::{Refusal, Refused};

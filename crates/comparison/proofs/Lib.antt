@@ -12,5 +12,10 @@ pub mod CompareDetermined
 pub mod CompareHonest
 pub mod CompareRoom
 pub mod CompareLessRoom
+-- the one-way question
+pub mod Joining
+pub mod WithinDetermined
+pub mod WithinHonest
+pub mod WithinRoom
 -- the proved answers of the scope, §11.2
 pub mod KnownCalls

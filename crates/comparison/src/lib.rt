@@ -8,6 +8,8 @@ ghost use Rattle.sets.specs.Rooms.{defaultRoom};
 ghost use Rattle.comparison.specs.Answers.{lentOf, callOf, compareTest, Compares};
 ghost use Rattle.comparison.specs.Inner.{Spellable, Spelt, Proposable, Proposed, Ready, Deals};
 
+pub mod inclusion; // inclusion.rt: the one-way question
+
 use sets::States;
 use verdict::Verdict;
 

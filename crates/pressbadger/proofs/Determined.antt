@@ -9,7 +9,9 @@ use Rattle.lent.specs.Lent.{lay}
 use Rattle.comparison.specs.Answers.{Lent, Call, answerOf, Compared}
 use Rattle.walk.proofs.WalkUnique.{walk-unique}
 use Rattle.verdict.proofs.Ordered.{apart}
+use Rattle.comparison.specs.Inclusion.{inclusionOf, Included}
 use Rattle.comparison.proofs.CompareDetermined.{compare-determined}
+use Rattle.comparison.proofs.WithinDetermined.{within-determined}
 use Rattle.evidence.specs.Evidence.{Offer}
 use Rattle.evidence.proofs.Determined.{check-determined}
 use Rattle.patternfile.proofs.Determined.{reader-determined, writer-determined}
@@ -17,8 +19,8 @@ use Rattle.expressions.proofs.Determined.{answer-determined}
 use Rattle.records.specs.declared.PbRecord.{PbRecord}
 use Rattle.records.specs.declared.answers.PbChecked.{PbChecked}
 use Rattle.records.specs.declared.answers.PbCompared.{PbCompared}
-use Rattle.records.specs.Answers.{checkAnswer, CheckedOffer, compareAnswer, ComparedLists}
-use Rattle.records.specs.Records.{layRecords, ComparedRecords}
+use Rattle.records.specs.Answers.{checkAnswer, CheckedOffer, compareAnswer, ComparedLists, inclusionAnswer, IncludedLists}
+use Rattle.records.specs.Records.{layRecords, ComparedRecords, IncludedRecords}
 use Rattle.records.specs.Records.ComparedRecords.{refuses, walks}
 use Rattle.pressbadger.specs.declared.files.PbPattern.{PbPattern}
 use Rattle.pressbadger.specs.declared.files.PbWritten.{PbWritten}
@@ -60,6 +62,23 @@ pb-compare-determined (walks e w) (refuses d) = apart e d
 pb-compare-determined {Q} {room} {records} {sequence} (walks e w) (walks d v) =
     let same = walk-unique w v in (
       ap (λ (o : Outcome). compareAnswer (answerOf o)) same,
+      ap (λ (o : Outcome). layRecords (keptOf o) records) same,
+      ap (λ (o : Outcome). lay (wordOf o) sequence) same,
+    )
+
+pub pb-within-lists-determined : {c : Call} {r s : PbCompared} {later later' : Lent} → IncludedLists c r later → IncludedLists c s later' → (r ≡ s) × (later ≡ later')
+pb-within-lists-determined a b =
+    let same = within-determined a.included b.included in
+    (a.answers ∙ ap inclusionAnswer same.0 ∙ sym b.answers, same.1)
+
+pub pb-within-determined : {Q : Question} {room : ℕ} {records : List PbRecord} {sequence : List ℕ} {r s : PbCompared} {later later' : List PbRecord} {word word' : List ℕ}
+    → IncludedRecords Q room records sequence r later word → IncludedRecords Q room records sequence s later' word' → (r ≡ s) × (later ≡ later') × (word ≡ word')
+pb-within-determined (IncludedRecords.refuses e) (IncludedRecords.refuses d) = (ap inclusionAnswer (within-determined (Included.refuses e) (Included.refuses d)).0, refl, refl)
+pb-within-determined (IncludedRecords.refuses e) (IncludedRecords.walks d w) = apart d e
+pb-within-determined (IncludedRecords.walks e w) (IncludedRecords.refuses d) = apart e d
+pb-within-determined {Q} {room} {records} {sequence} (IncludedRecords.walks e w) (IncludedRecords.walks d v) =
+    let same = walk-unique w v in (
+      ap (λ (o : Outcome). inclusionAnswer (inclusionOf (answerOf o))) same,
       ap (λ (o : Outcome). layRecords (keptOf o) records) same,
       ap (λ (o : Outcome). lay (wordOf o) sequence) same,
     )

@@ -17,14 +17,17 @@ use Rattle.lent.proofs.Laying.{take-lay, drop-lay}
 use Rattle.sets.specs.Sets.{Good}
 use Rattle.pattern.specs.Pattern.{Pattern, patternOf, Valid}
 use Rattle.pattern.specs.Language.{accepts, Over, SameLanguage}
+use Rattle.pattern.specs.Inclusion.{LanguageWithin}
 use Rattle.pattern.specs.Judge as Judge
 use Rattle.pattern.specs.Judge.{judged}
 use Rattle.pattern.specs.declared.Judged.{Judged}
+use Rattle.pattern.proofs.Inclusion.{union-within}
 use Rattle.pattern.proofs.Judging.{judge-honest, judge-answered, judge-lines, judge-among}
 use Rattle.walk.specs.Walk.{Question, Outcome, keptOf, wordOf}
 use Rattle.walk.specs.Walk.Outcome.{Same, Different, Full}
 use Rattle.walk.specs.Columns.{Field, value, Columns, column, columnsOf, firsts}
 use Rattle.walk.specs.Meaning.{Proper, Covers}
+use Rattle.walk.specs.Inclusion.{joined}
 use Rattle.walk.proofs.Columns.{fit-at, fit-by}
 use Rattle.comparison.specs.Answers as Comparison
 use Rattle.comparison.specs.Answers.{Lent, Call, answerOf, valuesOf, Compared}
@@ -32,11 +35,18 @@ use Rattle.comparison.specs.Answers.Compared.{refuses, walks}
 use Rattle.comparison.specs.Meaning as OfComparison
 use Rattle.comparison.specs.Meaning.{Roomy, SameWritten}
 use Rattle.comparison.specs.declared.Answer.{Answer}
-use Rattle.comparison.proofs.Asking.{compare-fine, compare-among}
+use Rattle.comparison.specs.Inclusion as OneWay
+use Rattle.comparison.specs.Inclusion.{inclusionOf, Included}
+use Rattle.comparison.specs.InclusionMeaning as OfOneWay
+use Rattle.comparison.specs.declared.inclusion.Inclusion.{Inclusion}
+use Rattle.comparison.proofs.Asking.{compare-fine, compare-among, refusal-number}
 use Rattle.comparison.proofs.Standing.{laid, firsts-laid}
 use Rattle.comparison.proofs.CompareHonest.{compare-valid, compare-honest, compare-answers}
 use Rattle.comparison.proofs.CompareRoom.{kept-is, compare-more-room, compare-room-enough, compare-never-full}
 use Rattle.comparison.proofs.CompareLessRoom.{compare-less-room}
+use Rattle.comparison.proofs.Joining.{joinedCall, joined-test}
+use Rattle.comparison.proofs.WithinHonest.{within-valid, within-honest, within-answers}
+use Rattle.comparison.proofs.WithinRoom.{within-more-room, within-room-enough, within-never-full}
 use Rattle.evidence.specs.Evidence as Evidence
 use Rattle.evidence.specs.Evidence.{Offer, ValidOffer, Checked}
 use Rattle.evidence.specs.Meaning as OfEvidence
@@ -66,11 +76,12 @@ use Rattle.expressions.proofs.Room.{rows-enough}
 use Rattle.records.specs.declared.PbRecord.{PbRecord}
 use Rattle.records.specs.declared.answers.PbCompared.{PbCompared}
 use Rattle.records.specs.declared.answers.PbChecked.{PbChecked}
-use Rattle.records.specs.Answers.{compareAnswer, ComparedLists, checkAnswer, CheckedOffer}
-use Rattle.records.specs.Records.{written, columnsIn, lentFor, callOn, ComparedRecords}
+use Rattle.records.specs.Answers.{compareAnswer, ComparedLists, inclusionAnswer, oneWay, asWithin, IncludedLists, checkAnswer, CheckedOffer}
+use Rattle.records.specs.Records.{written, columnsIn, lentFor, callOn, ComparedRecords, IncludedRecords}
 use Rattle.records.specs.Offers.{offerFor}
-use Rattle.records.proofs.Agreeing.{column-in, columns-first, firsts-known, pb-compare-by-columns, pb-compare-from-columns}
+use Rattle.records.proofs.Agreeing.{column-in, columns-first, firsts-known, pb-compare-by-columns, pb-compare-from-columns, pb-within-by-columns, pb-within-from-columns}
 use Rattle.records.proofs.Offering.{compare-same-is-proved}
+use Rattle.records.proofs.OneWay.{one-way-high, as-within, as-refused}
 use Rattle.pressbadger.specs.declared.PbJudged.{PbJudged}
 use Rattle.pressbadger.specs.declared.files.PbPattern.{PbPattern}
 use Rattle.pressbadger.specs.declared.files.PbWritten.{PbWritten}
@@ -78,7 +89,7 @@ use Rattle.pressbadger.specs.declared.texts.PbExpressed.{PbExpressed}
 use Rattle.pressbadger.specs.Judges.{judgeAnswer}
 use Rattle.pressbadger.specs.Files.{patternAnswer, ReadPattern, writtenAnswer, WrittenPattern}
 use Rattle.pressbadger.specs.Texts.{expressedAnswer, ExpressedTexts}
-use Rattle.pressbadger.specs.Promises.{SAME, DIFFERENT, FULL, PROVED, DONE, NO-ROOM, OneOf, compareRefusals, checkRefusals, judgeRefusals, readRefusals, writeRefusals, RoomFor, linesOf, ComparedMeans, LeftRecords, LeftLists, WalkedRecords, WalkedLists, SameRecords, LessRoom, CheckedMeans, JudgedMeans, donePattern, maxRows, longestFile, PatternMeans, doneWritten, WrittenMeans, textRefusals, doneExpressed, patternLeft, ExpressedMeans}
+use Rattle.pressbadger.specs.Promises.{SAME, DIFFERENT, FULL, PROVED, DONE, WITHIN, NOT-WITHIN, NO-ROOM, OneOf, compareRefusals, checkRefusals, judgeRefusals, readRefusals, writeRefusals, RoomFor, linesOf, ComparedMeans, LeftRecords, LeftLists, WalkedRecords, WalkedLists, SameRecords, LessRoom, WithinMeans, CheckedMeans, JudgedMeans, donePattern, maxRows, longestFile, PatternMeans, doneWritten, WrittenMeans, textRefusals, doneExpressed, patternLeft, ExpressedMeans}
 
 -- every refusal is 10 or more, so an answer with a lower number is none
 high : (numbers : List ℕ) {w : ℕ} → allFrom 10 numbers ≡ true → OneOf numbers w → 10 ≤ w
@@ -306,6 +317,200 @@ module _ {Q : Question} {room more : ℕ} {records records' : List PbRecord} {se
         full = λ h. let (e, same) = less.full h in (e, same-records same);
       }
 
+-- ---- the one-way question, as `comparison` says it
+
+module _ {c : Call} {a : Inclusion} {later : Lent} (k : Included c a later) where
+  named-within : OneOf compareRefusals (OneWay.numberOf a) ↔ OfOneWay.IsRefused a
+  named-within = (to k, fro k)
+    where
+      to : {a : Inclusion} {later : Lent} → Included c a later → OneOf compareRefusals (OneWay.numberOf a) → OfOneWay.IsRefused a
+      to (Included.refuses e) m = tt
+      to (Included.walks {o} f w) m = absurd (low (high compareRefusals refl m) (within-valid ((compare-fine c).0 f) (Included.walks {o = o} f w)))
+        where
+          low : {n : ℕ} → 10 ≤ n → (n ≡ 8) ⊎ (n ≡ 9) ⊎ (n ≡ 2) → ⊥
+          low h (inl e) = omega (arith, e)
+          low h (inr (inl e)) = omega (arith, e)
+          low h (inr (inr e)) = omega (arith, e)
+
+      fro : {a : Inclusion} {later : Lent} → Included c a later → OfOneWay.IsRefused a → OneOf compareRefusals (OneWay.numberOf a)
+      fro (Included.refuses e) i = (compare-among c).among _ e
+      fro (Included.walks {o} f w) i = absurd ((within-honest (Included.walks {o = o} f w)).refused.0 i ((compare-fine c).0 f))
+
+  within-means : WithinMeans c.question c.room (Roomy c.room c.lent) (inclusionAnswer a) later.sequence
+  within-means =
+      let h = within-honest k in
+      record {
+        answered = λ p. three (within-valid p k);
+        refused = (λ m. h.refused.0 (named-within.0 m), λ f. named-within.1 (h.refused.1 f));
+        refused-by = λ w. (λ p. (h.refused-by w).0 (named-within.0 p.0, p.1), λ p. let (i, e) = (h.refused-by w).1 p in (named-within.1 i, e));
+        within = h.within;
+        not-within = h.not-within;
+        full = h.full;
+        full-room = h.room-kept;
+        all-examined = h.all-examined;
+        examined-fits = h.examined-fits;
+        kept-fits = h.kept-fits;
+        length-fits = h.length-fits;
+        no-length = no-length a;
+      }
+    where
+      three : {n : ℕ} → (n ≡ 8) ⊎ (n ≡ 9) ⊎ (n ≡ 2) → OneOf (8 ∷ 9 ∷ 2 ∷ []) n
+      three (inl e) = Memᴰ.head e
+      three (inr (inl e)) = Memᴰ.tail (Memᴰ.head e)
+      three (inr (inr e)) = Memᴰ.tail (Memᴰ.tail (Memᴰ.head e))
+
+      no-length : (a : Inclusion) → (OneWay.numberOf a ≡ 9 → ⊥) → (OneWay.valuesOf a).length ≡ 0
+      no-length (Inclusion.Within kept examined) f = refl
+      no-length (Inclusion.NotWithin kept examined length) f = absurd (f refl)
+      no-length (Inclusion.Full kept examined) f = refl
+      no-length (Inclusion.Refused number) f = refl
+
+-- ---- by the comparison of X+Y with Y
+
+-- the same refusals
+refused-as : {n : ℕ} → OneOf compareRefusals (oneWay n) → OneOf compareRefusals n
+refused-as {n = zero} m = absurd (omega (arith, high compareRefusals refl m))
+refused-as {n = suc zero} m = absurd (omega (arith, high compareRefusals refl m))
+refused-as {n = suc (suc n)} m = m
+
+as-refusal : {n : ℕ} → OneOf compareRefusals n → oneWay n ≡ n
+as-refusal m = one-way-high (omega (arith, high compareRefusals refl m))
+
+-- ---- pb_within_lists
+
+-- it answers every call
+pub pb-within-lists-answers : (c : Call) → (r : PbCompared) × (later : Lent) × IncludedLists c r later
+pb-within-lists-answers c = let (a, later, k) = within-answers c in (inclusionAnswer a, later, record { answer = a; included = k; answers = refl })
+
+-- it is pb_compare_lists of X+Y and Y, with WITHIN for SAME and NOT-WITHIN for DIFFERENT
+pub pb-within-lists-compares : {c : Call} {r : PbCompared} {later : Lent} → IncludedLists c r later → (s : PbCompared) × ComparedLists (joinedCall c) s later × (r ≡ asWithin s)
+pb-within-lists-compares {c} {later = later} k = let (s, q, e) = from k.included in (s, q, k.answers ∙ e)
+  where
+    from : {a : Inclusion} {later : Lent} → Included c a later → (s : PbCompared) × ComparedLists (joinedCall c) s later × (inclusionAnswer a ≡ asWithin s)
+    from (Included.refuses {number} e) = (
+      compareAnswer (Answer.Refused number),
+      record { answer = Answer.Refused number; compared = refuses (joined-test c ∙ e); answers = refl },
+      as-refused (refusal-number c e),
+    )
+    from (Included.walks {o} f w) = (
+      compareAnswer (answerOf o),
+      record { answer = answerOf o; compared = walks (joined-test c ∙ f) w; answers = refl },
+      as-within o,
+    )
+
+module _ {c : Call} {r : PbCompared} {later : Lent} (k : IncludedLists c r later) where
+  -- it is honest, and refuses by number
+  pub pb-within-lists-means : WithinMeans c.question c.room (Roomy c.room c.lent) r later.sequence
+  pb-within-lists-means = rw k.answers (within-means k.included)
+
+  -- it is quiet, and touches nothing that is not named
+  pub pb-within-lists-leaves : LeftLists c.lent r later
+  pb-within-lists-leaves =
+      let (s, q, e) = pb-within-lists-compares k in
+      let l = pb-compare-lists-leaves q in
+      rw e (record { quiet = λ m. let (z, same) = l.quiet (refused-as m) in (rw z refl, same); other-numbers = l.other-numbers; other-bytes = l.other-bytes })
+
+  -- its counts, records and sequence are those of the walk of X+Y and Y
+  pub pb-within-lists-walks : (OneOf compareRefusals r.answer → ⊥) → (s : PbCompared) × (r ≡ asWithin s) × WalkedLists (joined c.question) c.room s later
+  pb-within-lists-walks n =
+      let (s, q, e) = pb-within-lists-compares k in
+      (s, e, pb-compare-lists-walks q (λ m. n (rw (e, as-refusal m) m)))
+
+  -- room enough, by a list that has every set reached from X+Y or from Y: fewer records are kept, and a room of one less is never FULL
+  pub pb-within-lists-room-enough : {sets : List ℕ} → Covers (joined c.question) sets → r.kept < length sets
+  pb-within-lists-room-enough covers = rw k.answers (within-room-enough covers k.included)
+
+  pub pb-within-lists-never-full : {sets : List ℕ} → Covers (joined c.question) sets → length sets ≤ c.room + 1 → r.answer ≡ FULL → ⊥
+  pb-within-lists-never-full covers enough e = within-never-full covers k.included enough (sym (ap (λ (z : PbCompared). z.answer) k.answers) ∙ e)
+
+settled-within : {w : ℕ} → OneOf (WITHIN ∷ NOT-WITHIN ∷ []) w → (w ≡ 8) ⊎ (w ≡ 9)
+settled-within (Memᴰ.head e) = inl e
+settled-within (Memᴰ.tail (Memᴰ.head e)) = inr e
+settled-within (Memᴰ.tail (Memᴰ.tail x)) = elim x [ ]
+
+-- more room, unless the larger call is refused: WITHIN and NOT-WITHIN stay, number for number, record for record and letter for letter
+pub pb-within-lists-more-room : {Q : Question} {room more : ℕ} {lent lent' : Lent} {r s : PbCompared} {l m : Lent} → room ≤ more
+    → IncludedLists (callIn Q room lent) r l → IncludedLists (callIn Q more lent') s m
+    → Roomy more lent' → OneOf (WITHIN ∷ NOT-WITHIN ∷ []) r.answer → (r ≡ s) × SameWritten r.kept r.length l m
+pb-within-lists-more-room le k k' roomy h =
+    let (e, same) = within-more-room le roomy k.included k'.included (settled-within (rw k.answers at h)) in
+    (k.answers ∙ ap inclusionAnswer e ∙ sym k'.answers, rw k.answers same)
+
+-- ---- pb_within
+
+-- it answers every call
+pub pb-within-answers : (Q : Question) (room : ℕ) (records : List PbRecord) (sequence : List ℕ)
+    → (r : PbCompared) × (later : List PbRecord) × (word : List ℕ) × IncludedRecords Q room records sequence r later word
+pb-within-answers Q room records sequence =
+    let (a, l, k) = within-answers (callOn Q room records sequence) in
+    let (later, word, e) = pb-within-from-columns k in
+    (inclusionAnswer a, later, word, e)
+
+within-by : {Q : Question} {room : ℕ} {A B : Type 0} {r : PbCompared} {word : List ℕ} → A ↔ B → WithinMeans Q room A r word → WithinMeans Q room B r word
+within-by {Q} e m =
+    record {
+      answered = λ p. m.answered (p.0, e.1 p.1);
+      refused = (λ i p. m.refused.0 i (p.0, e.1 p.1), λ f. m.refused.1 (λ p. f (p.0, e.0 p.1)));
+      refused-by = λ w. (λ p. lines-by Q e ((m.refused-by w).0 p), λ p. (m.refused-by w).1 (lines-by Q (e.1, e.0) p));
+      within = m.within;
+      not-within = m.not-within;
+      full = (λ z. let ((p, a), g) = m.full.0 z in ((p, e.0 a), g), λ p. m.full.1 ((p.0.0, e.1 p.0.1), p.1));
+      full-room = m.full-room;
+      all-examined = m.all-examined;
+      examined-fits = m.examined-fits;
+      kept-fits = m.kept-fits;
+      length-fits = m.length-fits;
+      no-length = m.no-length;
+    }
+
+module _ {Q : Question} {room : ℕ} {records : List PbRecord} {sequence : List ℕ} where
+  -- it is pb_compare of X+Y and Y, with WITHIN for SAME and NOT-WITHIN for DIFFERENT
+  pub pb-within-compares : {r : PbCompared} {later : List PbRecord} {word : List ℕ} → IncludedRecords Q room records sequence r later word
+      → (s : PbCompared) × ComparedRecords (joined Q) room records sequence s later word × (r ≡ asWithin s)
+  pb-within-compares (IncludedRecords.refuses {number} e) = (
+    compareAnswer (Answer.Refused number),
+    ComparedRecords.refuses (joined-test (callOn Q room records sequence) ∙ e),
+    as-refused (refusal-number (callOn Q room records sequence) e),
+  )
+  pb-within-compares (IncludedRecords.walks {o} f w) = (
+    compareAnswer (answerOf o),
+    ComparedRecords.walks (joined-test (callOn Q room records sequence) ∙ f) w,
+    as-within o,
+  )
+
+module _ {Q : Question} {room : ℕ} {records : List PbRecord} {sequence : List ℕ} {r : PbCompared} {later : List PbRecord} {word : List ℕ}
+    (k : IncludedRecords Q room records sequence r later word) where
+  -- it is honest, and refuses by number
+  pub pb-within-means : WithinMeans Q room (RoomFor room records sequence) r word
+  pb-within-means = within-by roomy (pb-within-lists-means (pb-within-by-columns k))
+
+  -- it is quiet, and touches nothing that is not named
+  pub pb-within-leaves : LeftRecords records sequence r later word
+  pb-within-leaves =
+      let (s, q, e) = pb-within-compares k in
+      let l = pb-compare-leaves q in
+      rw e (record { quiet = λ m. let (z, list, bytes) = l.quiet (refused-as m) in (rw z refl, list, bytes); other-records = l.other-records; other-bytes = l.other-bytes })
+
+  -- its counts, records and sequence are those of the walk of X+Y and Y
+  pub pb-within-walks : (OneOf compareRefusals r.answer → ⊥) → (s : PbCompared) × (r ≡ asWithin s) × WalkedRecords (joined Q) room s later word
+  pb-within-walks n =
+      let (s, q, e) = pb-within-compares k in
+      (s, e, pb-compare-walks q (λ m. n (rw (e, as-refusal m) m)))
+
+  -- room enough, by a list that has every set reached from X+Y or from Y
+  pub pb-within-room-enough : {sets : List ℕ} → Covers (joined Q) sets → r.kept < length sets
+  pb-within-room-enough covers = pb-within-lists-room-enough (pb-within-by-columns k) covers
+
+  pub pb-within-never-full : {sets : List ℕ} → Covers (joined Q) sets → length sets ≤ room + 1 → r.answer ≡ FULL → ⊥
+  pb-within-never-full covers enough e = pb-within-lists-never-full (pb-within-by-columns k) covers enough e
+
+-- more room, unless the larger call is refused
+pub pb-within-more-room : {Q : Question} {room more : ℕ} {records records' : List PbRecord} {sequence sequence' : List ℕ} {r s : PbCompared} {later later' : List PbRecord} {word word' : List ℕ} → room ≤ more
+    → IncludedRecords Q room records sequence r later word → IncludedRecords Q more records' sequence' s later' word'
+    → RoomFor more records' sequence' → OneOf (WITHIN ∷ NOT-WITHIN ∷ []) r.answer → (r ≡ s) × SameRecords r.kept r.length later word later' word'
+pb-within-more-room le k k' fits h =
+    let (e, same) = pb-within-lists-more-room le (pb-within-by-columns k) (pb-within-by-columns k') (roomy.1 fits) h in (e, same-records same)
+
 -- ---- pb_check, and pb_check_records at the two sides of the records
 
 module _ {o : Offer} {a : Evidence'.Answer} (k : Checked o a) where
@@ -355,6 +560,41 @@ pub pb-check-records-after-same : {Q : Question} {room : ℕ} {records : List Pb
     → ComparedRecords Q room records sequence r later word → r.answer ≡ SAME → CheckedOffer (offerFor Q (columnsIn (take r.kept later))) s → s.answer ≡ PROVED
 pb-check-records-after-same {Q} {r = r} {later} {s = s} k z q =
     pb-check-after-same (pb-compare-by-columns k) z (subst (λ (u : Columns). CheckedOffer (offerFor Q u) s) (columns-first r.kept later) q)
+
+-- ---- the evidence that WITHIN leaves: of X+Y and Y
+
+-- whoever wrote the list
+pub pb-check-within : {Q : Question} (pairs : Columns) {s : PbChecked} → CheckedOffer (offerFor (joined Q) pairs) s → s.answer ≡ PROVED → LanguageWithin Q.pattern Q.left Q.right
+pb-check-within pairs k z = union-within.0 ((pb-check-means k).same z)
+
+same-by : {n : ℕ} → oneWay n ≡ WITHIN → OneOf (SAME ∷ DIFFERENT ∷ FULL ∷ []) n ⊎ OneOf compareRefusals n → n ≡ SAME
+same-by z (inl (Memᴰ.head e)) = e
+same-by {n} z (inl (Memᴰ.tail (Memᴰ.head e))) = absurd (let d : oneWay 1 ≡ 8 = rw e at z in omega (arith, d))
+same-by {n} z (inl (Memᴰ.tail (Memᴰ.tail (Memᴰ.head e)))) = absurd (let d : oneWay 2 ≡ 8 = rw e at z in omega (arith, d))
+same-by z (inl (Memᴰ.tail (Memᴰ.tail (Memᴰ.tail x)))) = elim x [ ]
+same-by z (inr m) = absurd (omega (arith, high compareRefusals refl m, as-refusal m, z))
+
+one-of : {c : Call} {s : PbCompared} {later : Lent} → ComparedLists c s later → OneOf (SAME ∷ DIFFERENT ∷ FULL ∷ []) s.answer ⊎ OneOf compareRefusals s.answer
+one-of k = rw k.answers (from k.compared)
+  where
+    from : {c : Call} {a : Answer} {later : Lent} → Compared c a later
+        → OneOf (SAME ∷ DIFFERENT ∷ FULL ∷ []) (Comparison.numberOf a) ⊎ OneOf compareRefusals (Comparison.numberOf a)
+    from {c} (refuses e) = inr ((compare-among c).among _ e)
+    from {c} (walks {o} f w) = inl ((means (walks {o = o} f w)).answered ((compare-fine c).0 f))
+
+-- pb_check_records answers PROVED of X+Y and Y to the first `kept` records
+pub pb-check-records-after-within : {Q : Question} {room : ℕ} {records : List PbRecord} {sequence : List ℕ} {r : PbCompared} {later : List PbRecord} {word : List ℕ} {s : PbChecked}
+    → IncludedRecords Q room records sequence r later word → r.answer ≡ WITHIN → CheckedOffer (offerFor (joined Q) (columnsIn (take r.kept later))) s → s.answer ≡ PROVED
+pb-check-records-after-within k z q =
+    let (t, c, e) = pb-within-compares k in
+    pb-check-records-after-same c (same-by (rw e at z) (one-of (pb-compare-by-columns c))) (rw e at q)
+
+-- and pb_check to their two sides
+pub pb-check-after-within : {c : Call} {r : PbCompared} {later : Lent} {s : PbChecked} → IncludedLists c r later → r.answer ≡ WITHIN
+    → CheckedOffer (offerFor (joined c.question) (firsts r.kept later.columns)) s → s.answer ≡ PROVED
+pb-check-after-within k z q =
+    let (t, c, e) = pb-within-lists-compares k in
+    pb-check-after-same c (same-by (rw e at z) (one-of c)) (rw e at q)
 
 -- ---- pb_judge
 

@@ -9,6 +9,7 @@
 --                       the records, the sequence and the counts are those of the walk
 --   SameRecords, LessRoom
 --                       what one room says of another
+--   WithinMeans         what a PbCompared means that answers the one-way question
 --   CheckedMeans, JudgedMeans, PatternMeans, WrittenMeans, ExpressedMeans
 --                       what a PbChecked, a PbJudged, a PbPattern, a PbWritten, a PbExpressed mean; of the last three: and what is left in the buffer
 use Rattle.std.specs.Prelude.{◌≡◌, ◌↔◌, true, false, ℕ, suc, ◌+◌, ◌*◌, ◌≤◌, ◌<◌, length, take, drop}
@@ -20,10 +21,12 @@ use Rattle.sets.specs.Rooms.{maxRoom}
 use Rattle.pattern.specs.Pattern.{Pattern, patternOf}
 use Rattle.pattern.specs.Language.{accepts, SameLanguage}
 use Rattle.pattern.specs.Refusals.{MasksGood, shapeLines}
+use Rattle.pattern.specs.Inclusion.{LanguageWithin, Escapes}
 use Rattle.pattern.specs.Judge.{Judgeable, judgeLines}
 use Rattle.walk.specs.Walk.{Question, Outcome, keptOf, wordOf, Walk}
 use Rattle.walk.specs.Columns.{Field, Columns, column, columnsOf, firsts}
 use Rattle.walk.specs.Meaning.{Proper, Outgrows, Tells, numberKept}
+use Rattle.walk.specs.Inclusion.{joined}
 use Rattle.comparison.specs.Answers.{Lent, answerOf}
 use Rattle.comparison.specs.Meaning.{SidesGood}
 use Rattle.evidence.specs.Evidence.{Offer, ValidOffer}
@@ -70,6 +73,12 @@ NOT-PROVED = 6
 
 abbrev pub DONE : ℕ
 DONE = 7
+
+abbrev pub WITHIN : ℕ
+WITHIN = 8
+
+abbrev pub NOT-WITHIN : ℕ
+NOT-WITHIN = 9
 
 abbrev pub BAD-SIZE : ℕ
 BAD-SIZE = 10
@@ -210,6 +219,27 @@ pub record SameRecords (kept length : ℕ) (later : List PbRecord) (word : List 
 pub record LessRoom (letters room : ℕ) (s : PbCompared) (records : Columns) (Same : ℕ → ℕ → Type 0) (r : PbCompared) : Type 0 where
   pub same : s.kept ≤ room → (r ≡ s) × Same s.kept s.length
   pub full : room < s.kept → (r ≡ fullCompared room (suc (numberKept letters records room))) × Same room 0
+
+-- ---- the one-way question: pb_within over a list of records, pb_within_lists over columns. What it leaves is said as of a comparison
+
+pub record WithinMeans (Q : Question) (room : ℕ) (Roomed : Type 0) (r : PbCompared) (word : List ℕ) : Type 0 where
+  -- a valid question gets one of the three, and any other is refused, as the comparison of X and Y is
+  pub answered : Answerable Q Roomed → OneOf (WITHIN ∷ NOT-WITHIN ∷ FULL ∷ []) r.answer
+  pub refused : OneOf compareRefusals r.answer ↔ (Answerable Q Roomed → ⊥)
+  pub refused-by : (w : ℕ) → (OneOf compareRefusals r.answer × (r.answer ≡ w)) ↔ Applies (linesOf Q Roomed) w
+  -- WITHIN: every sequence that is accepted from X is accepted from Y
+  pub within : r.answer ≡ WITHIN → LanguageWithin Q.pattern Q.left Q.right
+  -- NOT-WITHIN: the first bytes of the sequence are accepted from X and not from Y
+  pub not-within : r.answer ≡ NOT-WITHIN → Escapes Q.pattern Q.left Q.right (take r.length word)
+  -- FULL: exactly where the walk of X+Y and Y has to keep one more pair than the room allows
+  pub full : (r.answer ≡ FULL) ↔ (Answerable Q Roomed × Outgrows (joined Q) room)
+  pub full-room : r.answer ≡ FULL → r.kept ≡ room
+  -- the counts
+  pub all-examined : r.answer ≡ WITHIN → r.examined ≡ 1 + Q.pattern.letters * r.kept
+  pub examined-fits : r.examined ≤ 1 + Q.pattern.letters * r.kept
+  pub kept-fits : r.kept ≤ room
+  pub length-fits : r.length ≤ r.kept
+  pub no-length : (r.answer ≡ NOT-WITHIN → ⊥) → r.length ≡ 0
 
 -- ---- evidence: pb_check, and pb_check_records at the two sides of the records
 

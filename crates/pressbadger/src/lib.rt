@@ -8,6 +8,7 @@ use pattern::Judged;
 
 pub mod checks; // checks.rt: evidence checked, in two lists or in a list of records
 pub mod compares; // compares.rt: the comparison over a list of records, and over lists of numbers
+pub mod inclusions; // inclusions.rt: the one-way question over a list of records, and over lists of numbers
 pub mod files; // files.rt: pattern files, read and written
 pub mod texts; // texts.rt: two texts made into one pattern
 

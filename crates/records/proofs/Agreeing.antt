@@ -1,4 +1,5 @@
--- The comparison over a list of records gives what the comparison over lists of numbers gives for its columns. Assumes nothing.
+-- The comparison over a list of records gives what the comparison over lists of numbers gives for its columns, and so does the one-way question.
+-- Assumes nothing.
 use mathlib.Core.Path.{◌≡◌, refl, sym, ap, ap₂, ◌∙◌, subst}
 use mathlib.Core.List.{List, [], ◌∷◌, ◌++◌, map, map-append}
 use Prim.Native.Nat.{ℕ, zero, suc}
@@ -11,12 +12,15 @@ use Rattle.walk.proofs.Columns.{column-by, record-path, columns-path}
 use Rattle.comparison.specs.Answers.{Lent, answerOf, layOut, Compared}
 use Rattle.comparison.specs.Answers.Compared.{refuses, walks}
 use Rattle.comparison.specs.declared.Answer.{Answer}
+use Rattle.comparison.specs.Inclusion.{inclusionOf, Included}
+use Rattle.comparison.specs.declared.inclusion.Inclusion.{Inclusion}
 use Rattle.comparison.proofs.Standing.{lent-path}
 use Rattle.comparison.proofs.CompareDetermined.{compare-determined}
+use Rattle.comparison.proofs.WithinDetermined.{within-determined}
 use Rattle.records.specs.declared.PbRecord.{PbRecord}
 use Rattle.records.specs.declared.answers.PbCompared.{PbCompared}
-use Rattle.records.specs.Answers.{compareAnswer, ComparedLists}
-use Rattle.records.specs.Records.{written, valueIn, columnsIn, lentFor, callOn, layRecords, ComparedRecords}
+use Rattle.records.specs.Answers.{compareAnswer, ComparedLists, inclusionAnswer, IncludedLists}
+use Rattle.records.specs.Records.{written, valueIn, columnsIn, lentFor, callOn, layRecords, ComparedRecords, IncludedRecords}
 
 -- ---- the columns of a host's list
 
@@ -105,3 +109,27 @@ pb-compare-agrees e c =
     let by = pb-compare-by-columns e in
     let same = compare-determined by.compared c.compared in
     (by.answers ∙ ap compareAnswer same.0 ∙ sym c.answers, same.1)
+
+-- ---- the two calls of the one-way question
+
+pub pb-within-by-columns : {Q : Question} {room : ℕ} {records : List PbRecord} {sequence : List ℕ} {r : PbCompared} {later : List PbRecord} {word : List ℕ}
+    → IncludedRecords Q room records sequence r later word → IncludedLists (callOn Q room records sequence) r (lentFor later word)
+pb-within-by-columns (IncludedRecords.refuses {number} e) = record { answer = Inclusion.Refused number; included = Included.refuses e; answers = refl }
+pb-within-by-columns {Q} {room} {records} {sequence} (IncludedRecords.walks {o} e w) =
+    record {
+      answer = inclusionOf (answerOf o);
+      included = subst (Included (callOn Q room records sequence) (inclusionOf (answerOf o))) (sym (lent-laid (keptOf o) (wordOf o) records sequence)) (Included.walks e w);
+      answers = refl;
+    }
+
+pub pb-within-from-columns : {Q : Question} {room : ℕ} {records : List PbRecord} {sequence : List ℕ} {a : Inclusion} {left : Lent}
+    → Included (callOn Q room records sequence) a left → (later : List PbRecord) × (word : List ℕ) × IncludedRecords Q room records sequence (inclusionAnswer a) later word
+pb-within-from-columns {records = records} {sequence} (Included.refuses e) = (records, sequence, IncludedRecords.refuses e)
+pb-within-from-columns {records = records} {sequence} (Included.walks {o} e w) = (layRecords (keptOf o) records, lay (wordOf o) sequence, IncludedRecords.walks e w)
+
+pub pb-within-agrees : {Q : Question} {room : ℕ} {records : List PbRecord} {sequence : List ℕ} {r s : PbCompared} {later : List PbRecord} {word : List ℕ} {left : Lent}
+    → IncludedRecords Q room records sequence r later word → IncludedLists (callOn Q room records sequence) s left → (r ≡ s) × (lentFor later word ≡ left)
+pb-within-agrees e c =
+    let by = pb-within-by-columns e in
+    let same = within-determined by.included c.included in
+    (by.answers ∙ ap inclusionAnswer same.0 ∙ sym c.answers, same.1)

@@ -3,3 +3,4 @@ pub mod Finding
 pub mod Agreeing
 pub mod Gathering
 pub mod Offering
+pub mod OneWay

@@ -1,4 +1,4 @@
--- The answers as a host reads them, the comparison over a list of records, records offered; then what only the functions beneath the exports cite.
+-- The answers as a host reads them, the comparison and the one-way question over a list of records, records offered; then what only the functions beneath the exports cite.
 pub mod Answers
 pub mod Records
 pub mod Offers

@@ -1,11 +1,12 @@
 // The answers as a host reads them: the scope's number of each (§7), and the numbers returned with it.
 ghost use Rattle.std.specs.Prelude.{◌≡◌};
-ghost use Rattle.records.specs.Answers.{compareAnswer, checkAnswer};
+ghost use Rattle.records.specs.Answers.{compareAnswer, inclusionAnswer, asWithin, checkAnswer};
 
 use comparison::Answer as Compared;
+use comparison::inclusion::Inclusion;
 use evidence::Answer as Checked;
 
-// The answer to a comparison.
+// The answer to a comparison, and to the one-way question.
 #[repr(C)]
 #[derive(Clone, Copy)]
 pub struct PbCompared {
@@ -15,35 +16,51 @@ pub struct PbCompared {
     pub length: usize,
 }
 
+fn counted(answer: u8, kept: usize, examined: usize, length: usize) -> PbCompared
+    ensures { result ≡ record { answer = answer; kept = kept; examined = examined; length = length } }
+{
+    PbCompared {
+        answer: answer,
+        kept: kept,
+        examined: examined,
+        length: length,
+    }
+}
+
 pub fn compare_answer(answer: Compared) -> PbCompared
     ensures { result ≡ compareAnswer answer }
 {
     match answer {
-        Compared::Same(kept, examined) => PbCompared {
-            answer: 0,
-            kept: kept,
-            examined: examined,
-            length: 0,
-        },
-        Compared::Different(kept, examined, length) => PbCompared {
-            answer: 1,
-            kept: kept,
-            examined: examined,
-            length: length,
-        },
-        Compared::Full(kept, examined) => PbCompared {
-            answer: 2,
-            kept: kept,
-            examined: examined,
-            length: 0,
-        },
-        Compared::Refused(number) => PbCompared {
-            answer: number,
-            kept: 0,
-            examined: 0,
-            length: 0,
-        },
+        Compared::Same(kept, examined) => counted(0, kept, examined, 0),
+        Compared::Different(kept, examined, length) => counted(1, kept, examined, length),
+        Compared::Full(kept, examined) => counted(2, kept, examined, 0),
+        Compared::Refused(number) => counted(number, 0, 0, 0),
     }
+}
+
+pub fn inclusion_answer(answer: Inclusion) -> PbCompared
+    ensures { result ≡ inclusionAnswer answer }
+{
+    match answer {
+        Inclusion::Within(kept, examined) => counted(8, kept, examined, 0),
+        Inclusion::NotWithin(kept, examined, length) => counted(9, kept, examined, length),
+        Inclusion::Full(kept, examined) => counted(2, kept, examined, 0),
+        Inclusion::Refused(number) => counted(number, 0, 0, 0),
+    }
+}
+
+// The answer to the one-way question, by that of the comparison of X+Y with Y: WITHIN for SAME, NOT-WITHIN for DIFFERENT.
+pub fn one_way(compared: PbCompared) -> PbCompared
+    ensures { result ≡ asWithin compared }
+{
+    let answer = if compared.answer == 0 {
+        8
+    } else if compared.answer == 1 {
+        9
+    } else {
+        compared.answer
+    };
+    counted(answer, compared.kept, compared.examined, compared.length)
 }
 
 // The answer to a check: PROVED or NOT-PROVED with its place, or a refusal and 0.

@@ -1,9 +1,9 @@
-// The comparison over a list of records: made in tables of its own, small ones first, and written as records.
+// The comparison and the one-way question over a list of records: made in tables of their own, small ones first, and written as records.
 ghost use Rattle.std.specs.Prelude.{◌≡◌, ◌≤◌, length};
 ghost use Rattle.sets.specs.Rooms.{maxRoom};
 ghost use Rattle.walk.specs.Walk.{questionOf};
 ghost use Rattle.walk.specs.Columns.{Fit};
-ghost use Rattle.records.specs.Records.{ComparedRecords};
+ghost use Rattle.records.specs.Records.{ComparedRecords, IncludedRecords};
 ghost use Rattle.records.specs.Inner.{asColumns, filled, Asked, Tried};
 
 use crate::answers::PbCompared;
@@ -115,4 +115,25 @@ pub fn compare(
         );
     }
     compared
+}
+
+// Asks in a given room whether all that is accepted from `x` is accepted from `y`: the comparison of `x`+`y` with `y`.
+pub fn within(
+    states: usize,
+    letters: usize,
+    finals: u64,
+    rows: &[u64],
+    x: u64,
+    y: u64,
+    room: usize,
+    records: &mut [PbRecord],
+    sequence: &mut [u8],
+) -> PbCompared
+    ensures { IncludedRecords (questionOf states letters finals rows.now x y) room records.old sequence.old result records.new sequence.new }
+{
+    let either = sets::union(x, y);
+    let compared = compare(
+        states, letters, finals, rows, either, y, room, records, sequence,
+    );
+    crate::answers::one_way(compared)
 }

@@ -15,6 +15,8 @@ pub mod MoreRoom
 pub mod LessRoom
 pub mod FullExactly
 pub mod RoomEnough
+-- the one-way question
+pub mod Inclusion
 -- the proved answers of the scope, §11.2
 pub mod Computed
 pub mod KnownAnswers

@@ -55,6 +55,13 @@ pub fn compare(question: &Question, room: u64, lengths: Lengths) -> Comparison {
     })
 }
 
+/// What the one-way question gives in a room.
+pub fn within(question: &Question, room: u64, lengths: Lengths) -> Comparison {
+    compared(question, lengths, |rows, records, sequence| {
+        host::within(question, rows, room as usize, records, sequence)
+    })
+}
+
 /// What the comparison's short form gives.
 pub fn compare_default(question: &Question, lengths: Lengths) -> Comparison {
     compared(question, lengths, |rows, records, sequence| {
@@ -88,6 +95,29 @@ pub fn compare_lists(
     lists: [usize; 4],
     sequence: usize,
 ) -> Comparison {
+    compared_lists(question, lists, sequence, |rows, lists, sequence| {
+        host::compare_lists(question, rows, room as usize, lists, sequence)
+    })
+}
+
+/// What the one-way question gives in a room, with lists of the given lengths.
+pub fn within_lists(
+    question: &Question,
+    room: u64,
+    lists: [usize; 4],
+    sequence: usize,
+) -> Comparison {
+    compared_lists(question, lists, sequence, |rows, lists, sequence| {
+        host::within_lists(question, rows, room as usize, lists, sequence)
+    })
+}
+
+fn compared_lists(
+    question: &Question,
+    lists: [usize; 4],
+    sequence: usize,
+    call: impl FnOnce(&[u64], Lists, &mut [u8]) -> PbCompared,
+) -> Comparison {
     let rows = Lent::holding(&question.pattern.rows);
     let [lefts, rights, parents, taken] = lists;
     let (mut lefts, mut rights) = (Lent::blank(lefts), Lent::blank(rights));
@@ -99,13 +129,7 @@ pub fn compare_lists(
         parents: parents.get_mut(),
         taken: taken.get_mut(),
     };
-    let found = host::compare_lists(
-        question,
-        rows.get(),
-        room as usize,
-        lists,
-        sequence.get_mut(),
-    );
+    let found = call(rows.get(), lists, sequence.get_mut());
     let kept = 0..found.kept;
     if u64::from(found.answer) == SAME {
         let Question { pattern, x, y } = question;

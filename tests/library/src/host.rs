@@ -6,11 +6,11 @@ use reference::questions::Question;
 /// A record as it is lent: all its 24 bytes, those that no field has among them.
 pub type RecordBytes = [u64; 3];
 
-/// The answer to a comparison.
+/// The answer to a comparison, and to the one-way question.
 #[repr(C)]
 #[derive(Clone, Copy, Debug, PartialEq, Eq)]
 pub struct PbCompared {
-    /// SAME, DIFFERENT, FULL or a refusal; all else is 0 on a refusal.
+    /// SAME, DIFFERENT, FULL, WITHIN, NOT-WITHIN or a refusal; all else is 0 on a refusal.
     pub answer: u8,
     /// The number of records kept.
     pub kept: usize,
@@ -125,6 +125,40 @@ mod exports {
             sequence_count: usize,
         ) -> PbCompared;
         pub fn pb_compare_lists(
+            states: usize,
+            letters: usize,
+            finals: u64,
+            rows: *const u64,
+            rows_count: usize,
+            x: u64,
+            y: u64,
+            room: usize,
+            lefts: *mut u64,
+            lefts_count: usize,
+            rights: *mut u64,
+            rights_count: usize,
+            parents: *mut u16,
+            parents_count: usize,
+            taken: *mut u8,
+            taken_count: usize,
+            sequence: *mut u8,
+            sequence_count: usize,
+        ) -> PbCompared;
+        pub fn pb_within(
+            states: usize,
+            letters: usize,
+            finals: u64,
+            rows: *const u64,
+            rows_count: usize,
+            x: u64,
+            y: u64,
+            room: usize,
+            records: *mut RecordBytes,
+            records_count: usize,
+            sequence: *mut u8,
+            sequence_count: usize,
+        ) -> PbCompared;
+        pub fn pb_within_lists(
             states: usize,
             letters: usize,
             finals: u64,
@@ -299,6 +333,70 @@ pub fn compare_lists(
     // SAFETY: the rows are valid for reads and the others for writes of their counts.
     unsafe {
         exports::pb_compare_lists(
+            states,
+            letters,
+            pattern.finals,
+            rows.as_ptr(),
+            rows.len(),
+            *x,
+            *y,
+            room,
+            lists.lefts.as_mut_ptr(),
+            lists.lefts.len(),
+            lists.rights.as_mut_ptr(),
+            lists.rights.len(),
+            lists.parents.as_mut_ptr(),
+            lists.parents.len(),
+            lists.taken.as_mut_ptr(),
+            lists.taken.len(),
+            sequence.as_mut_ptr(),
+            sequence.len(),
+        )
+    }
+}
+
+/// Asks the one-way question of two sets in a room; the pattern's rows are those lent.
+pub fn within(
+    question: &Question,
+    rows: &[u64],
+    room: usize,
+    records: &mut [RecordBytes],
+    sequence: &mut [u8],
+) -> PbCompared {
+    let Question { pattern, x, y } = question;
+    let (states, letters) = sizes(pattern);
+    // SAFETY: as for `compare`.
+    unsafe {
+        exports::pb_within(
+            states,
+            letters,
+            pattern.finals,
+            rows.as_ptr(),
+            rows.len(),
+            *x,
+            *y,
+            room,
+            records.as_mut_ptr(),
+            records.len(),
+            sequence.as_mut_ptr(),
+            sequence.len(),
+        )
+    }
+}
+
+/// Asks the one-way question of two sets in a room, with records column by column; the pattern's rows are those lent.
+pub fn within_lists(
+    question: &Question,
+    rows: &[u64],
+    room: usize,
+    lists: Lists,
+    sequence: &mut [u8],
+) -> PbCompared {
+    let Question { pattern, x, y } = question;
+    let (states, letters) = sizes(pattern);
+    // SAFETY: as for `compare_lists`.
+    unsafe {
+        exports::pb_within_lists(
             states,
             letters,
             pattern.finals,

@@ -166,7 +166,13 @@ fn at_most_20513_bytes_are_taken_in() {
 fn the_examples_are_answered_as_their_page_says() {
     let folder = Path::new(env!("CARGO_MANIFEST_DIR")).join("../../examples");
     let page = fs::read_to_string(folder.join("README.md")).expect("the page is there");
-    for name in ["first-answer", "stable-gravity", "recent-drop", "checklist"] {
+    for name in [
+        "first-answer",
+        "stable-gravity",
+        "recent-drop",
+        "second-sample",
+        "checklist",
+    ] {
         let input =
             fs::read(folder.join(name).with_extension("pattern")).expect("the example is there");
         let written = String::from_utf8(written_for("compare", &input)).expect("it is text");

@@ -18,6 +18,8 @@ answers! {
     PROVED = 5, "PROVED", "The evidence holds.";
     NOT_PROVED = 6, "NOT-PROVED", "The evidence does not hold.";
     DONE = 7, "DONE", "The file has been read or written, or the pattern made.";
+    WITHIN = 8, "WITHIN", "Every sequence that X accepts is accepted from Y.";
+    NOT_WITHIN = 9, "NOT-WITHIN", "A sequence is accepted from X and not from Y.";
     BAD_SIZE = 10, "BAD-SIZE", "n or k is outside its range.";
     BAD_TABLE = 11, "BAD-TABLE", "The rows lent are not n*k in number.";
     BAD_SET = 12, "BAD-SET", "A mask has a bit n or above.";

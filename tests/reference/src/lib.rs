@@ -19,6 +19,8 @@ pub mod evidence;
 pub mod judge;
 pub mod walk;
 
+pub mod inclusion;
+
 pub mod file;
 pub mod numbers;
 

@@ -1,4 +1,4 @@
-//! An independent judge of equivalence: plain subset construction, breadth first.
+//! An independent judge of equivalence and of inclusion: plain subset construction, breadth first.
 
 use crate::pattern::{accepts, letters, next, Pattern};
 use std::collections::{HashSet, VecDeque};
@@ -14,12 +14,38 @@ pub enum Verdict {
     TooBig,
 }
 
-/// Goes through all pairs of sets reached by one sequence, at most `cap` of them.
+/// What the subset construction finds of the one-way question.
+#[derive(Clone, Debug, PartialEq, Eq)]
+pub enum Inclusion {
+    /// The second set accepts all that the first does.
+    Within,
+    /// A shortest sequence that the first accepts and the second does not.
+    Escapes(Vec<u8>),
+    /// More pairs were reached than the cap allows.
+    TooBig,
+}
+
+/// Whether two sets accept the same sequences.
 pub fn equivalence(pattern: &Pattern, x: u64, y: u64, cap: usize) -> Verdict {
+    search(pattern, x, y, cap, |left, right| left != right)
+}
+
+/// Whether the first set accepts nothing that the second does not: both by themselves, side by side.
+pub fn inclusion(pattern: &Pattern, x: u64, y: u64, cap: usize) -> Inclusion {
+    match search(pattern, x, y, cap, |left, right| left && !right) {
+        Verdict::Equivalent => Inclusion::Within,
+        Verdict::Different(sequence) => Inclusion::Escapes(sequence),
+        Verdict::TooBig => Inclusion::TooBig,
+    }
+}
+
+/// Goes through all pairs of sets reached by one sequence, at most `cap` of them, until what the two accept of the
+/// empty sequence stops it.
+fn search(pattern: &Pattern, x: u64, y: u64, cap: usize, stops: fn(bool, bool) -> bool) -> Verdict {
     let mut seen = HashSet::from([(x, y)]);
     let mut waiting = VecDeque::from([(x, y, Vec::new())]);
     while let Some((left, right, sequence)) = waiting.pop_front() {
-        if accepts(pattern, left) != accepts(pattern, right) {
+        if stops(accepts(pattern, left), accepts(pattern, right)) {
             return Verdict::Different(sequence);
         }
         for letter in letters(pattern) {

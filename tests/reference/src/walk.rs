@@ -52,15 +52,31 @@ pub fn compare(
     list_lengths: &[u64],
     sequence_length: u64,
 ) -> Comparison {
-    let refusal = check_shape(pattern)
-        .and_then(|()| check_room(room, list_lengths, sequence_length))
-        .and_then(|()| check_sets(pattern, [x, y]));
-    match refusal {
+    match refusal(pattern, x, y, room, list_lengths, sequence_length) {
         Ok(()) => walk(pattern, x, y, room),
-        Err(answer) => Comparison {
-            answer,
-            ..Comparison::default()
-        },
+        Err(answer) => refused(answer),
+    }
+}
+
+/// The first refusal of a comparison, if it is refused.
+pub(crate) fn refusal(
+    pattern: &Pattern,
+    x: u64,
+    y: u64,
+    room: u64,
+    list_lengths: &[u64],
+    sequence_length: u64,
+) -> Result<(), u64> {
+    check_shape(pattern)
+        .and_then(|()| check_room(room, list_lengths, sequence_length))
+        .and_then(|()| check_sets(pattern, [x, y]))
+}
+
+/// What is returned with a refusal.
+pub(crate) fn refused(answer: u64) -> Comparison {
+    Comparison {
+        answer,
+        ..Comparison::default()
     }
 }
 
@@ -89,7 +105,8 @@ enum Step {
     Keep,
 }
 
-fn walk(pattern: &Pattern, x: u64, y: u64, room: u64) -> Comparison {
+/// The walk of a question that is not refused.
+pub(crate) fn walk(pattern: &Pattern, x: u64, y: u64, room: u64) -> Comparison {
     let mut records: Vec<Record> = Vec::new();
     let mut pairs: Vec<Pair> = Vec::new();
     let mut examined = 0;

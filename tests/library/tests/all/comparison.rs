@@ -71,7 +71,8 @@ fn the_named_questions_are_compared_as_they_should() {
     }
 }
 
-fn record(numbers: &[u64]) -> Record {
+/// A record of a file of cases.
+pub fn record(numbers: &[u64]) -> Record {
     match *numbers {
         [left, right, parent, letter] => Record {
             left,

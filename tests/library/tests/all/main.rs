@@ -15,6 +15,7 @@ mod comparison;
 mod evidence;
 mod expressions;
 mod files;
+mod inclusion;
 mod judge;
 mod rooms;
 

@@ -75,13 +75,13 @@ fn around_64_pairs_a_room_answers_as_any_other() {
     }
 }
 
-/// A call of the comparison: the lengths are those of four lists and of the sequence.
+/// A call of the comparison, or of the one-way question: the lengths are those of four lists and of the sequence.
 #[derive(Clone, Debug)]
-struct Call {
-    question: Question,
-    room: u64,
-    lists: [usize; 4],
-    sequence: usize,
+pub struct Call {
+    pub question: Question,
+    pub room: u64,
+    pub lists: [usize; 4],
+    pub sequence: usize,
 }
 
 /// The answer, by the call with records too where the lists are of one length.
@@ -133,10 +133,8 @@ fn faults_of_room() -> Vec<Fault<Call>> {
     faults
 }
 
-/// Catches a fault that is not looked at, or that is looked at too early or too
-/// late: 10, 11, 13, 12 is the order.
-#[test]
-fn every_fault_of_a_comparison_is_refused_in_order() {
+/// Fails unless every fault is refused, and of two the one that comes first: 10, 11, 13, 12 is the order.
+pub fn assert_refusals(answer: impl Fn(&Call) -> u64) {
     let mut faults = of_pattern(|call: &mut Call| &mut call.question.pattern);
     faults.extend(faults_of_room());
     faults.extend([
@@ -166,8 +164,14 @@ fn every_fault_of_a_comparison_is_refused_in_order() {
             lists: [room as usize; 4],
             sequence: room as usize,
         };
-        assert_refused_in_order(&right, &faults, &order, answer);
+        assert_refused_in_order(&right, &faults, &order, &answer);
     }
+}
+
+/// Catches a fault that is not looked at, or that is looked at too early or too late.
+#[test]
+fn every_fault_of_a_comparison_is_refused_in_order() {
+    assert_refusals(answer);
 }
 
 /// Catches a list that is judged by what would be kept: here nothing would be.

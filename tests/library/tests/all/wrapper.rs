@@ -3,7 +3,7 @@
 use crate::draw::{any_question, small_question};
 use library::calls::{self, Lengths};
 use library::{cases, rounds::rounds};
-use pressbadger::{Checked, Columns, Compared, Judged, Refusal, Refused, TextRefused};
+use pressbadger::{Checked, Columns, Compared, Inclusion, Judged, Refusal, Refused, TextRefused};
 use reference::answers::*;
 use reference::congruence::Pair;
 use reference::evidence::Check;
@@ -61,6 +61,38 @@ fn comparison<R>(
         }) => (records(r), examined, sequence),
         Ok(_) => panic!("an answer that the reference does not know"),
     };
+    counted(answer, examined, records, sequence)
+}
+
+/// An answer to the one-way question by the wrapper, in the reference's types.
+fn one_way<R>(
+    included: Result<Inclusion<R>, Refused>,
+    records: impl Fn(R) -> Vec<Record>,
+) -> Comparison {
+    let answer = number(&included, Inclusion::number);
+    let (records, examined, sequence) = match included {
+        Err(_) => (Vec::new(), 0, &[][..]),
+        Ok(
+            Inclusion::Within {
+                records: r,
+                examined,
+            }
+            | Inclusion::Full {
+                records: r,
+                examined,
+            },
+        ) => (records(r), examined, &[][..]),
+        Ok(Inclusion::NotWithin {
+            records: r,
+            examined,
+            sequence,
+        }) => (records(r), examined, sequence),
+        Ok(_) => panic!("an answer that the reference does not know"),
+    };
+    counted(answer, examined, records, sequence)
+}
+
+fn counted(answer: u64, examined: usize, records: Vec<Record>, sequence: &[u8]) -> Comparison {
     Comparison {
         answer,
         kept: records.len() as u64,
@@ -139,6 +171,30 @@ fn assert_compare_lists(question: &Question, room: usize, lengths: [usize; 4]) {
     }
     let wanted = calls::compare_lists(question, room as u64, lengths, lefts);
     assert_eq!(comparison(found, of_columns), wanted);
+}
+
+fn assert_within(question: &Question, room: u64, length: usize) {
+    let Question { pattern, x, y } = question;
+    let (pattern, room) = (lend(pattern), room as usize);
+    let mut records = vec![pressbadger::Record::default(); length];
+    let mut sequence = vec![0; length + 1];
+    let found = pressbadger::within(&pattern, *x, *y, room, &mut records, &mut sequence);
+    let lengths = Lengths {
+        records: length,
+        sequence: length + 1,
+    };
+    let wanted = calls::within(question, room as u64, lengths);
+    assert_eq!(one_way(found, of_records), wanted);
+    let lists = pressbadger::Lists {
+        lefts: &mut vec![0; length],
+        rights: &mut vec![0; length + 1],
+        parents: &mut vec![0; length + 2],
+        taken: &mut vec![0; length + 3],
+    };
+    let found = pressbadger::within_lists(&pattern, *x, *y, room, lists, &mut sequence);
+    let lengths = [length, length + 1, length + 2, length + 3];
+    let wanted = calls::within_lists(question, room as u64, lengths, length + 1);
+    assert_eq!(one_way(found, of_columns), wanted);
 }
 
 fn assert_judge(pattern: &Pattern, set: u64, sequence: &[u8]) {
@@ -251,6 +307,12 @@ fn the_wrapper_answers_the_named_questions_as_the_exports_do() {
             assert_compare(&case.question(), room, length);
         }
     }
+    for case in cases::load("within.txt", &keys, &["records"]) {
+        let room = case.number("room");
+        for length in [0, room as usize, 1030] {
+            assert_within(&case.question(), room, length);
+        }
+    }
     for case in cases::load("judge.txt", &["pattern", "set", "sequence", "answer"], &[]) {
         let sequence = case.letters("sequence");
         assert_judge(&case.pattern("pattern"), case.number("set"), &sequence);
@@ -295,6 +357,7 @@ fn the_wrapper_answers_random_questions_as_the_exports_do() {
         assert_check(&question, &[*x, *y], &[*y, *y]);
         assert_check_records(&question, &[(*x, *y), (*y, *y)]);
         assert_compare(&question, random.below(20), random.below(40) as usize);
+        assert_within(&question, random.below(20), random.below(40) as usize);
         let bytes = assert_write(&question, random.between(5, 30_000) as usize);
         assert_read(&bytes, random.between(1, 2048) as usize);
         let [one, mut two] = [(); 2].map(|()| {
@@ -442,7 +505,17 @@ fn every_answer_has_the_scopes_number() {
         examined,
         sequence,
     };
+    let within: Inclusion = Inclusion::Within { records, examined };
+    let neither: Inclusion = Inclusion::Full { records, examined };
+    let not_within: Inclusion = Inclusion::NotWithin {
+        records,
+        examined,
+        sequence,
+    };
     let answers = [
+        (within.number(), WITHIN),
+        (not_within.number(), NOT_WITHIN),
+        (neither.number(), FULL),
         (same.number(), SAME),
         (different.number(), DIFFERENT),
         (full.number(), FULL),

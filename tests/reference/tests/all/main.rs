@@ -11,6 +11,7 @@ mod congruence;
 mod evidence;
 mod expressions;
 mod files;
+mod inclusion;
 mod questions;
 mod walk;
 

@@ -205,14 +205,12 @@ fn the_reader_refuses_with_number_and_place() {
 #[test]
 fn every_answer_number_has_its_name() {
     let numbers: Vec<u64> = NAMES.iter().map(|(number, _)| *number).collect();
-    let wanted: Vec<u64> = (0..=7)
-        .chain(10..=16)
-        .chain(20..=22)
-        .chain(30..=32)
-        .collect();
+    let wanted: Vec<u64> = (0..=16).chain(20..=22).chain(30..=32).collect();
     assert_eq!(numbers, wanted);
     let some = [
         (6, "NOT-PROVED"),
+        (8, "WITHIN"),
+        (9, "NOT-WITHIN"),
         (13, "BAD-ROOM"),
         (14, "NO-ROOM"),
         (15, "BAD-LETTER"),
@@ -220,6 +218,6 @@ fn every_answer_number_has_its_name() {
     for (number, wanted) in some {
         assert_eq!(name(number), Some(wanted));
     }
-    assert_eq!(name(8), None);
-    assert!(!is_refusal(DONE) && is_refusal(BAD_SIZE));
+    assert_eq!(name(17), None);
+    assert!(!is_refusal(NOT_WITHIN) && is_refusal(BAD_SIZE));
 }

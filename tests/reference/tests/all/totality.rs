@@ -6,7 +6,7 @@ use reference::pattern::Pattern;
 use reference::questions::{figure_five, renamed_copy, switches};
 use reference::random::Random;
 use reference::subsets::{equivalence, sets_reached, Verdict};
-use reference::{events, evidence, file, judge, numbers, pattern as rules, walk};
+use reference::{events, evidence, file, inclusion, judge, numbers, pattern as rules, walk};
 
 const EDGES: [u64; 9] = [0, 1, 2, 32, 33, 64, 65, 1 << 63, u64::MAX];
 
@@ -28,6 +28,7 @@ fn every_call_answers_at_the_edges_of_the_numbers() {
             let answers = [
                 judge::judge(&pattern, set, &[0, 255]),
                 walk::compare(&pattern, set, 1, set, &[set], set).answer,
+                inclusion::within(&pattern, set, 1, set, &[set], set).answer,
                 evidence::check(&pattern, set, 1, &[set], &[1]).answer,
                 file::write(&pattern, set, 1, set).answer,
             ];

@@ -1,0 +1,17 @@
+-- What the one-way question answers and leaves in what is lent: over a list of records, and over lists of numbers.
+use Rattle.std.specs.Prelude.{List, ℕ}
+use Rattle.lent.specs.Lent.{SliceOf, Slice, before, after}
+use Rattle.walk.specs.Walk.{questionOf}
+use Rattle.comparison.specs.Answers.{callOf, lentBefore, lentAfter}
+use Rattle.records.specs.declared.PbRecord.{PbRecord}
+use Rattle.records.specs.declared.answers.PbCompared.{PbCompared}
+use Rattle.records.specs.Answers.{IncludedLists}
+use Rattle.records.specs.Records.{IncludedRecords}
+
+abbrev pub IncludesRecords : ℕ → ℕ → ℕ → List ℕ → ℕ → ℕ → ℕ → SliceOf PbRecord → Slice → PbCompared → Type 0
+IncludesRecords states letters finals rows x y room records sequence r =
+    IncludedRecords (questionOf states letters finals rows x y) room (before records) (before sequence) r (after records) (after sequence)
+
+abbrev pub IncludesLists : ℕ → ℕ → ℕ → List ℕ → ℕ → ℕ → ℕ → Slice → Slice → Slice → Slice → Slice → PbCompared → Type 0
+IncludesLists states letters finals rows x y room lefts rights parents taken sequence r =
+    IncludedLists (callOf states letters finals rows x y room (lentBefore lefts rights parents taken sequence)) r (lentAfter lefts rights parents taken sequence)
