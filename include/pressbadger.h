@@ -11,7 +11,7 @@
  *   - it answers, it ends, and it touches nothing but what it is lent;
  *   - it keeps no pointer, allocates nothing, has no state of its own, and may be called from
  *     several threads at once on different memory;
- *   - a refusal (an answer 10 to 16, 20 to 22 or 30 to 32) changes no byte of what is lent, and every
+ *   - a refusal (an answer 10 to 16, 20 to 23 or 30 to 32) changes no byte of what is lent, and every
  *     number returned with it is 0, but for the place of pb_read_pattern, and the place and the text of
  *     pb_expressions;
  *   - after any other answer, everything lent and not named below as written is unchanged.
@@ -46,7 +46,7 @@ extern "C" {
 #endif
 
 /* The version of this interface. */
-#define PB_VERSION 1
+#define PB_VERSION 2
 
 /* The largest room that may be asked for, and the room of pb_compare_default. */
 #define PB_MAX_ROOM 1024
@@ -60,7 +60,7 @@ extern "C" {
 #define PB_MAX_LETTERS 32
 #define PB_MAX_OPEN 32
 
-/* Answers. 10 to 16, 20 to 22 and 30 to 32 are refusals; where several apply, the order is 10, 11, 13, 16,
+/* Answers. 10 to 16, 20 to 23 and 30 to 32 are refusals; where several apply, the order is 10, 11, 13, 16,
  * 12, 14, 15, and for pb_read_pattern the first fault by place. pb_expressions has its own order. */
 enum {
     PB_SAME = 0,
@@ -81,8 +81,9 @@ enum {
     PB_BAD_LETTER = 15, /* a sequence has a letter `letters` or above */
     PB_BAD_LIST = 16,   /* evidence of over 1024 pairs, or two sides of different length */
     PB_CUT = 20,        /* the file ends before or within a number */
-    PB_LONG = 21,       /* a number is badly written: padded, or over 64 bits */
+    PB_PADDED = 21,     /* a number ends with a needless group of zero: what wrote the file pads */
     PB_TAIL = 22,       /* bytes after the last number */
+    PB_TOO_BIG = 23,    /* a number has a tenth byte other than 00 or 01: it is 2^64 or more */
     PB_SYNTAX = 30,     /* a name or a byte that no right text has there, or an unfinished text */
     PB_TOO_MANY = 31,   /* no state is left for a name or for a start */
     PB_TOO_DEEP = 32    /* a parenthesis opens, and 32 are open */
@@ -90,7 +91,7 @@ enum {
 
 /* Whether an answer is a refusal. A number that a later version adds is not one for being high. */
 static inline int pb_is_refusal(uint8_t answer) {
-    return (answer >= PB_BAD_SIZE && answer <= PB_BAD_LIST) || (answer >= PB_CUT && answer <= PB_TAIL) ||
+    return (answer >= PB_BAD_SIZE && answer <= PB_BAD_LIST) || (answer >= PB_CUT && answer <= PB_TOO_BIG) ||
            (answer >= PB_SYNTAX && answer <= PB_TOO_DEEP);
 }
 
@@ -256,7 +257,7 @@ pb_checked pb_check_records(size_t states, size_t letters, uint64_t finals,
  * PB_MAX_ROWS entries are always enough. A refusal returns the place of the fault: the first byte of
  * the number at fault (for PB_CUT the data's length where no byte of it came), for PB_NO_ROOM the byte
  * after `letters`, for PB_TAIL the first extra byte. The first fault by place decides.
- * Refusals: 10, 12, 14, 20, 21, 22. Stack: about 300 bytes. */
+ * Refusals: 10, 12, 14, 20, 21, 22, 23. Stack: about 300 bytes. */
 pb_pattern pb_read_pattern(const uint8_t *bytes, size_t bytes_count,
                            uint64_t *rows, size_t rows_count);
 

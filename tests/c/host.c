@@ -207,6 +207,12 @@ static void files(void) {
     check(p.answer == PB_CUT && p.states == 0 && p.place == 7, "without its last byte it is cut at 7");
     p = pb_read_pattern(file, sizeof file, rows, 2);
     check(p.answer == PB_NO_ROOM && p.place == 2, "two rows are too few");
+    const uint8_t padded[] = {0x03, 0x01, 0x85, 0x00};
+    p = pb_read_pattern(padded, sizeof padded, rows, 4);
+    check(p.answer == PB_PADDED && p.states == 0 && p.place == 2, "5 in two bytes is padded");
+    const uint8_t too_big[] = {0x03, 0x01, 0x80, 0x80, 0x80, 0x80, 0x80, 0x80, 0x80, 0x80, 0x80, 0x02};
+    p = pb_read_pattern(too_big, sizeof too_big, rows, 4);
+    check(p.answer == PB_TOO_BIG && p.states == 0 && p.place == 2, "2^64 is too big");
 }
 
 static pb_expressed expressed(const char *one, const char *two, uint64_t *rows, size_t rows_count) {
@@ -256,7 +262,7 @@ static void makes_patterns(void) {
 /* Catches a number that is taken for a refusal because it is high, and a refusal that is not taken for one. */
 static void tells_refusals(void) {
     static const uint8_t refusals[] = {PB_BAD_SIZE, PB_BAD_TABLE, PB_BAD_SET, PB_BAD_ROOM, PB_NO_ROOM,
-                                       PB_BAD_LETTER, PB_BAD_LIST, PB_CUT, PB_LONG, PB_TAIL,
+                                       PB_BAD_LETTER, PB_BAD_LIST, PB_CUT, PB_PADDED, PB_TAIL, PB_TOO_BIG,
                                        PB_SYNTAX, PB_TOO_MANY, PB_TOO_DEEP};
     for (unsigned answer = 0; answer < 256; answer++)
         check(pb_is_refusal((uint8_t)answer) == (memchr(refusals, (int)answer, sizeof refusals) != NULL), "a refusal by its number");

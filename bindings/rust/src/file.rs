@@ -26,7 +26,7 @@ pub struct PatternRead<'rows> {
 /// its content.
 ///
 /// The first fault by place decides, and the error has its [`place`](Refused::place). The refusals
-/// are BAD-SIZE, BAD-SET, NO-ROOM, CUT, LONG and TAIL.
+/// are BAD-SIZE, BAD-SET, NO-ROOM, CUT, PADDED, TAIL and TOO-BIG.
 pub fn read_pattern<'rows>(
     bytes: &[u8],
     rows: &'rows mut [u64],

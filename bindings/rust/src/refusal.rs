@@ -27,10 +27,12 @@ pub enum Refusal {
     BadList = 16,
     /// The file ends before or within a number.
     Cut = 20,
-    /// A number of the file is badly written.
-    Long = 21,
+    /// A number of the file ends with a needless group of zero: what wrote the file pads its numbers.
+    Padded = 21,
     /// There are bytes after the file's last number.
     Tail = 22,
+    /// A number of the file has a tenth byte other than 00 or 01: it is 2^64 or more.
+    TooBig = 23,
     /// No right text has that name or byte there, or the text is unfinished.
     Syntax = 30,
     /// No state is left for an event name, or for the second text's start.
@@ -50,8 +52,9 @@ impl Refusal {
         Refusal::BadLetter,
         Refusal::BadList,
         Refusal::Cut,
-        Refusal::Long,
+        Refusal::Padded,
         Refusal::Tail,
+        Refusal::TooBig,
         Refusal::Syntax,
         Refusal::TooMany,
         Refusal::TooDeep,
@@ -73,8 +76,9 @@ impl Refusal {
             Refusal::BadLetter => "BAD-LETTER",
             Refusal::BadList => "BAD-LIST",
             Refusal::Cut => "CUT",
-            Refusal::Long => "LONG",
+            Refusal::Padded => "PADDED",
             Refusal::Tail => "TAIL",
+            Refusal::TooBig => "TOO-BIG",
             Refusal::Syntax => "SYNTAX",
             Refusal::TooMany => "TOO-MANY",
             Refusal::TooDeep => "TOO-DEEP",
@@ -94,8 +98,11 @@ impl Refusal {
             Refusal::BadLetter => "the sequence has a letter that the pattern does not have",
             Refusal::BadList => "the evidence has over 1024 pairs, or sides of different length",
             Refusal::Cut => "the file ends before or within a number",
-            Refusal::Long => "a number of the file is badly written: padded, or over 64 bits",
+            Refusal::Padded => {
+                "a number of the file is written with needless zero groups: the exporter pads"
+            }
             Refusal::Tail => "there are bytes after the file's last number",
+            Refusal::TooBig => "a number of the file is 2^64 or more: no mask has so many bits",
             Refusal::Syntax => "no right text goes on so",
             Refusal::TooMany => "no state is left, of the 64 for both texts",
             Refusal::TooDeep => "more than 32 parentheses are open",

@@ -3,7 +3,7 @@
 use crate::exports;
 
 /// The version of the interface that this wrapper is written for.
-pub const VERSION: u32 = 1;
+pub const VERSION: u32 = 2;
 
 /// The version of the library that is linked: [`VERSION`], or the two do not go together, and every
 /// other call panics.

@@ -4,7 +4,8 @@ use mathlib.Core.List.{[], ◌∷◌}
 use mathlib.Core.Path.{◌≡◌, refl}
 use Rattle.verdict.specs.Tests.{need, inOrder}
 use Rattle.numbers.specs.declared.Number.TheVariants.{Value, Fault}
-use Rattle.numbers.specs.Numbers.{encodeIn, encode, byteTest, groups, numberAt}
+use Rattle.numbers.specs.declared.NumberRead.TheVariants.{Done}
+use Rattle.numbers.specs.Numbers.{encodeIn, encode, byteTest, groups, numberAt, readAt}
 
 -- 300 is AC 02
 pub three-hundred : encode 300 ≡ 0xac ∷ 0x02 ∷ []
@@ -29,7 +30,7 @@ pub largest-read : numberAt (0xff ∷ 0xff ∷ 0xff ∷ 0xff ∷ 0xff ∷ 0xff �
 unfolding numberAt groups byteTest inOrder need
 largest-read = refl
 
--- `80 00` is LONG, place 0; `80` alone CUT, place 0
+-- `80 00` is PADDED, place 0; `80` alone CUT, place 0
 pub padded : numberAt (0x80 ∷ 0x00 ∷ []) 0 ≡ Fault 21 0
 unfolding numberAt groups byteTest inOrder need
 padded = refl
@@ -43,8 +44,8 @@ pub none-came : numberAt (0x05 ∷ []) 1 ≡ Fault 20 1
 unfolding numberAt groups
 none-came = refl
 
--- ten bytes 80 are LONG; nine and the end are CUT; a tenth byte 02 is LONG
-pub ten : numberAt (0x80 ∷ 0x80 ∷ 0x80 ∷ 0x80 ∷ 0x80 ∷ 0x80 ∷ 0x80 ∷ 0x80 ∷ 0x80 ∷ 0x80 ∷ []) 0 ≡ Fault 21 0
+-- ten bytes 80 are TOO-BIG; nine and the end are CUT; a tenth byte 02 is TOO-BIG, and 00 PADDED
+pub ten : numberAt (0x80 ∷ 0x80 ∷ 0x80 ∷ 0x80 ∷ 0x80 ∷ 0x80 ∷ 0x80 ∷ 0x80 ∷ 0x80 ∷ 0x80 ∷ []) 0 ≡ Fault 23 0
 unfolding numberAt groups byteTest inOrder need
 ten = refl
 
@@ -52,6 +53,15 @@ pub nine : numberAt (0x80 ∷ 0x80 ∷ 0x80 ∷ 0x80 ∷ 0x80 ∷ 0x80 ∷ 0x80 
 unfolding numberAt groups byteTest inOrder need
 nine = refl
 
-pub tenth-two : numberAt (0x80 ∷ 0x80 ∷ 0x80 ∷ 0x80 ∷ 0x80 ∷ 0x80 ∷ 0x80 ∷ 0x80 ∷ 0x80 ∷ 0x02 ∷ []) 0 ≡ Fault 21 0
+pub tenth-two : numberAt (0x80 ∷ 0x80 ∷ 0x80 ∷ 0x80 ∷ 0x80 ∷ 0x80 ∷ 0x80 ∷ 0x80 ∷ 0x80 ∷ 0x02 ∷ []) 0 ≡ Fault 23 0
 unfolding numberAt groups byteTest inOrder need
 tenth-two = refl
+
+pub tenth-nought : numberAt (0x80 ∷ 0x80 ∷ 0x80 ∷ 0x80 ∷ 0x80 ∷ 0x80 ∷ 0x80 ∷ 0x80 ∷ 0x80 ∷ 0x00 ∷ []) 0 ≡ Fault 21 0
+unfolding numberAt groups byteTest inOrder need
+tenth-nought = refl
+
+-- 300 takes two bytes, wherever it stands
+pub three-hundred-takes : readAt (7 ∷ 0xac ∷ 0x02 ∷ 9 ∷ []) 1 ≡ Done 300 2
+unfolding readAt groups byteTest inOrder need
+three-hundred-takes = refl

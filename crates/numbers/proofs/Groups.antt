@@ -32,7 +32,7 @@ module _ (i b : ℕ) where
   -- a tenth byte that is fine is 01
   pub fine-tenth : byteTest i b ≡ Fine → 9 ≤ i → b ≡ 1
   unfolding byteTest
-  fine-tenth h n = go (ℕ_discrete b 1) (need-fine (ltb i 9 || eqb b 1) 21 ((order-fine _).0 h).1.0)
+  fine-tenth h n = go (ℕ_discrete b 1) (need-fine (ltb i 9 || eqb b 1) 23 ((order-fine _).0 h).1.0)
     where
       go : Dec (b ≡ 1) → (ltb i 9 || eqb b 1) ≡ true → b ≡ 1
       go (yes e) t = e
@@ -46,16 +46,13 @@ module _ (i b : ℕ) where
   unfolding byteTest inOrder need
   against-zero l z = let n : i ≡ 0 → ⊥ = λ e. omega arith in simp (ne_eqb i 0 n, eq-eqb b 0 z)
 
-  pub against-tenth : 9 ≤ i → (b ≡ 1 → ⊥) → byteTest i b ≡ Against 21
+  pub against-tenth : 9 ≤ i → 1 < b → byteTest i b ≡ Against 23
   unfolding byteTest inOrder need
   against-tenth l o =
-      elim (ℕ_discrete b 0) [
-        | yes z ↦ against-zero (omega arith) z
-        | no z ↦ late z
-      ]
-    where
-      late : (b ≡ 0 → ⊥) → byteTest i b ≡ Against 21
-      late z = let n : i ≡ 0 → ⊥ = λ e. omega arith in simp (ne_eqb i 0 n, ne_eqb b 0 z, le-ltb i 9 l, ne_eqb b 1 o)
+      let n : i ≡ 0 → ⊥ = λ e. omega arith in
+      let z : b ≡ 0 → ⊥ = λ e. omega arith in
+      let u : b ≡ 1 → ⊥ = λ e. omega arith in
+      simp (ne_eqb i 0 n, ne_eqb b 0 z, le-ltb i 9 l, ne_eqb b 1 u)
 
   pub fine-when : (b ≡ 0 → i ≡ 0) → (9 ≤ i → b ≡ 1) → byteTest i b ≡ Fine
   unfolding byteTest inOrder need

@@ -3,6 +3,8 @@ pub mod Groups
 pub mod RoundTrip
 pub mod Faults
 pub mod TenBytes
+pub mod Worth
+pub mod Taking
 pub mod Examples
 pub mod ReaderLoop
 pub mod WriterLoops

@@ -9,8 +9,8 @@ use native.Mathlib.Omega.{arith}
 use lib.ListN.{length, drop, get_or, drop_of_length-le}
 use lib.Seq.{drop-cons}
 use Rattle.verdict.specs.declared.Verdict.TheVariants.{Fine, Against}
-use Rattle.numbers.specs.declared.Number.TheVariants.{Value, Fault}
-use Rattle.numbers.specs.Numbers.{byteTest, Form, whole, faulty, more, groups, placed, numberAt}
+use Rattle.numbers.specs.declared.NumberRead.TheVariants.{Done, Refused}
+use Rattle.numbers.specs.Numbers.{byteTest, Form, whole, faulty, more, groups, answered, readAt}
 use Rattle.numbers.proofs.Groups.{fine-tenth, fine-more, groups-none, groups-bad, groups-last, groups-more}
 
 -- i groups, worth value in all, in front of a form
@@ -19,7 +19,6 @@ carry value weight i (whole v n) = whole (value + v * weight) (i + n)
 carry value weight i (faulty w) = faulty w
 
 pub record Going (s : List ℕ) (at value weight place i : ℕ) : Type 0 where
-  pub stands : place ≡ at + i
   pub few : i ≤ 9
   pub power : weight ≡ 128 ^ i
   pub small : value < weight
@@ -34,35 +33,33 @@ carry-more value weight i g (whole v n) =
     cc
 carry-more value weight i g (faulty w) = refl
 
-number-is : (s : List ℕ) (at : ℕ) (f : Form) → groups 0 (drop at s) ≡ f → placed at f ≡ numberAt s at
-unfolding numberAt
-number-is s at f h = rw h
+answer-is : (s : List ℕ) (at : ℕ) (f : Form) → groups 0 (drop at s) ≡ f → answered at f ≡ readAt s at
+unfolding readAt
+answer-is s at f h = rw h
 
 powers : (i j : ℕ) → i ≤ j → 128 ^ i ≤ 128 ^ j
 powers i j h = pow-le-pow_right (zero-lt-suc 127) h
 
 module _ {s : List ℕ} {at value weight place i : ℕ} (g : Going s at value weight place i) where
-  pub going-cut : length s ≤ place → Fault 20 at ≡ numberAt s at
-  going-cut h = number-is s at (faulty 20) (g.same ∙ ap (carry value weight i) (ap (groups i) (drop_of_length-le s h) ∙ groups-none i))
+  pub going-cut : length s ≤ place → Refused 20 at ≡ readAt s at
+  going-cut h = answer-is s at (faulty 20) (g.same ∙ ap (carry value weight i) (ap (groups i) (drop_of_length-le s h) ∙ groups-none i))
 
   module _ {b : ℕ} (h : place < length s) (e : b ≡ get_or s place 0) where
     head : groups i (drop place s) ≡ groups i (b ∷ drop (suc place) s)
     head = ap (groups i) (drop-cons s place 0 h ∙ rw e)
 
-    pub going-bad : {w : ℕ} → byteTest i b ≡ Against w → Fault w at ≡ numberAt s at
-    going-bad {w} j = number-is s at (faulty w) (g.same ∙ ap (carry value weight i) (head ∙ groups-bad i b (drop (suc place) s) j))
+    pub going-bad : {w : ℕ} → byteTest i b ≡ Against w → Refused w at ≡ readAt s at
+    going-bad {w} j = answer-is s at (faulty w) (g.same ∙ ap (carry value weight i) (head ∙ groups-bad i b (drop (suc place) s) j))
 
-    pub going-last : byteTest i b ≡ Fine → b < 128 → Value (value + b * weight) (place + 1) ≡ numberAt s at
+    pub going-last : byteTest i b ≡ Fine → b < 128 → Done (value + b * weight) (i + 1) ≡ readAt s at
     going-last j l =
-        let p : place + 1 ≡ at + (i + 1) = omega (arith, g.stands) in
-        rw p (number-is s at (whole (value + b * weight) (i + 1)) (g.same ∙ ap (carry value weight i) (head ∙ groups-last i b (drop (suc place) s) j l)))
+        answer-is s at (whole (value + b * weight) (i + 1)) (g.same ∙ ap (carry value weight i) (head ∙ groups-last i b (drop (suc place) s) j l))
 
     pub going-more : byteTest i b ≡ Fine → 128 ≤ b → b < 256 → Going s at (value + (b - 128) * weight) (weight * 128) (place + 1) (i + 1)
     going-more j l u =
         let n : i < 9 = fine-more i b j l in
         let q : (b - 128) * weight ≤ 127 * weight = mul-le-mul_right weight (omega arith) in
         record {
-          stands = omega (arith, g.stands);
           few = omega arith;
           power = rw (add-one, pow-suc 128 i, g.power);
           small = omega (arith, g.small);

@@ -1,10 +1,16 @@
 -- Where and why reading stops.
 --   EndsEarly i bytes       the data ends before a number's last byte: 20 CUT (`cut-exactly`)
---   BadlyWritten i bytes    one of a number's bytes is against the rule: 21 LONG (`long-exactly`)
+--   BadlyWritten Bad i bytes
+--                           one of a number's bytes is bad, and those before it say that another follows
+--   Padded i bytes          the bad byte is a last group of 0 after at least one other: 21 PADDED (`padded-exactly`), which adds nothing
+--                           (`padded-is-needless`)
+--   TooBig i bytes          the bad byte is a tenth byte other than 00 or 01: 23 TOO-BIG (`too-big-exactly`), so that the value is
+--                           2 ^ 64 or more (`too-big-is-big`)
+--   worth bytes             what their groups are worth, lowest first
 --   After f us g            what is left of a format behind some numbers that it takes
 --   StoppedBy s w place f   why reading a format stops at a place, with the refusal w
 --   Stops f s at w place    reading from a place on stops there, and all numbers before it are right (`first-fault`)
-use Rattle.std.specs.Prelude.{ℕ, ◌+◌, ◌^◌, ◌<◌, ◌≤◌, List, [], ◌∷◌, ◌++◌, ◌≡◌, length, drop, get_or}
+use Rattle.std.specs.Prelude.{ℕ, ◌+◌, ◌*◌, ◌%◌, ◌^◌, ◌<◌, ◌≤◌, List, [], ◌∷◌, ◌++◌, ◌≡◌, length, drop, get_or}
 use Rattle.verdict.specs.declared.Verdict.{Verdict}
 use Rattle.verdict.specs.declared.Verdict.TheVariants.{Fine, Against}
 use Rattle.numbers.specs.declared.Number.TheVariants.{Value, Fault}
@@ -16,18 +22,34 @@ pub record EndsEarly (i : ℕ) (bs : List ℕ) : Type 0 where
   pub few : i + length bs < 10
   pub go-on : (j : ℕ) → j < length bs → 128 ≤ get_or bs j 0
 
--- a byte that the scope speaks against: a group of 0 after another group, or a tenth byte other than 01
-pub data BadByte : ℕ → ℕ → Type 0 where
-  needless : {i : ℕ} → 0 < i → BadByte i 0
-  tenth : {b : ℕ} → (b ≡ 1 → ⊥) → BadByte 9 b
+-- byte number i, from 0, is a last group of 0 after at least one other
+pub record Needless (i b : ℕ) : Type 0 where
+  pub later : 0 < i
+  pub nothing : b ≡ 0
+
+-- byte number i, from 0, is a tenth byte other than 00 or 01
+pub record Beyond (i b : ℕ) : Type 0 where
+  pub tenth : i ≡ 9
+  pub other : 1 < b
 
 -- a number badly written: after bytes that say that another follows, one of the first ten is bad
-pub record BadlyWritten (i : ℕ) (bs : List ℕ) : Type 0 where
+pub record BadlyWritten (Bad : ℕ → ℕ → Type 0) (i : ℕ) (bs : List ℕ) : Type 0 where
   pub j : ℕ
   pub there : j < length bs
   pub among : i + j < 10
   pub go-on : (m : ℕ) → m < j → 128 ≤ get_or bs m 0
-  pub bad : BadByte (i + j) (get_or bs j 0)
+  pub bad : Bad (i + j) (get_or bs j 0)
+
+abbrev pub Padded : ℕ → List ℕ → Type 0
+Padded = BadlyWritten Needless
+
+abbrev pub TooBig : ℕ → List ℕ → Type 0
+TooBig = BadlyWritten Beyond
+
+-- the value that groups make, whatever it is
+unfoldable pub worth : List ℕ → ℕ
+worth [] = 0
+worth (b ∷ bs) = b % 128 + worth bs * 128
 
 -- what is left of a format behind some numbers that it takes
 pub data After : Format → List ℕ → Format → Type 0 where

@@ -2,14 +2,20 @@
 --   encode v           the bytes of v: its groups, lowest first (`encode-last`, `encode-more`)
 --   byteTest i b       what is against b as byte number i, from 0, of a number
 --   groups i bytes     what the bytes of a number are from its byte number i on: a `whole` value, or a `faulty` number
---   numberAt bytes at  what reading at a place finds (`read-after-write`, `write-after-read`, `cut-exactly`, `long-exactly`)
+--   numberAt bytes at  what stands at a place, for what goes on behind it (`read-after-write`, `write-after-read`, `cut-exactly`,
+--                      `padded-exactly`, `too-big-exactly`)
+--   readAt bytes at    what the reader answers there: a value and how many bytes it took, or the same fault (`done-exactly`,
+--                      `refused-exactly`, `took`)
 --   AreBytes bytes     each of them is a byte
-use Rattle.std.specs.Prelude.{ℕ, zero, suc, ◌+◌, ◌*◌, ◌-◌, ◌/◌, ◌%◌, ◌<◌, cond, not, ◌||◌, List, [], ◌∷◌, ltb, eqb, drop, get_or}
+--   Took bytes at v n  the value v took n bytes at a place, which are its one form (`took`)
+use Rattle.std.specs.Prelude.{ℕ, zero, suc, ◌+◌, ◌*◌, ◌-◌, ◌/◌, ◌%◌, ◌<◌, ◌≤◌, cond, not, ◌||◌, List, [], ◌∷◌, ◌++◌, ◌≡◌, ltb, eqb, length, drop, get_or}
 use Rattle.verdict.specs.declared.Verdict.{Verdict}
 use Rattle.verdict.specs.declared.Verdict.TheVariants.{Fine, Against}
 use Rattle.verdict.specs.Tests.{need, inOrder}
 use Rattle.numbers.specs.declared.Number.{Number}
 use Rattle.numbers.specs.declared.Number.TheVariants.{Value, Fault}
+use Rattle.numbers.specs.declared.NumberRead.{NumberRead}
+use Rattle.numbers.specs.declared.NumberRead.TheVariants.{Done, Refused}
 
 -- groups of seven bits, lowest group first; bit 7 of a byte is set when another group follows
 unfoldable pub encodeIn : ℕ → ℕ → List ℕ
@@ -20,9 +26,9 @@ encodeIn (suc most) v = cond (ltb v 128) (v ∷ []) ((128 + v % 128) ∷ encodeI
 unfoldable pub encode : ℕ → List ℕ
 encode v = encodeIn 10 v
 
--- shortest form only: a last group of 0 after another is LONG; a tenth byte must be 01, any other is LONG
+-- a last group of 0 after another is PADDED, a tenth byte of 00 too; any other tenth byte but 01 is TOO-BIG
 unfoldable pub byteTest : ℕ → ℕ → Verdict
-byteTest i b = inOrder (need (eqb i 0 || not (eqb b 0)) 21 ∷ need (ltb i 9 || eqb b 1) 21 ∷ [])
+byteTest i b = inOrder (need (eqb i 0 || not (eqb b 0)) 21 ∷ need (ltb i 9 || eqb b 1) 23 ∷ [])
 
 -- a value and how many bytes it took, or a fault
 pub data Form : Type 0 where
@@ -51,5 +57,21 @@ placed at (faulty w) = Fault w at
 unfoldable pub numberAt : List ℕ → ℕ → Number
 numberAt bytes at = placed at (groups 0 (drop at bytes))
 
+abbrev pub answered : ℕ → Form → NumberRead
+answered at (whole v n) = Done v n
+answered at (faulty w) = Refused w at
+
+-- the value and how many bytes it took; or the fault, at the same place
+unfoldable pub readAt : List ℕ → ℕ → NumberRead
+readAt bytes at = answered at (groups 0 (drop at bytes))
+
 pub record AreBytes (bytes : List ℕ) : Type 0 where
   pub each : (i : ℕ) → get_or bytes i 0 < 256
+
+-- a number took n bytes at a place: 1 to 10, they are its one form, and behind them stands what follows
+pub record Took (bytes : List ℕ) (at v n : ℕ) : Type 0 where
+  pub form : drop at bytes ≡ encode v ++ drop (at + n) bytes
+  pub count : n ≡ length (encode v)
+  pub some : 1 ≤ n
+  pub few : n ≤ 10
+  pub within : at + n ≤ length bytes

@@ -3,13 +3,20 @@
 
 ghost use Rattle.std.specs.Prelude.{◌≡◌, ◌+◌, ◌≤◌, ◌<◌, length};
 ghost use Rattle.lent.specs.Lent.{Put};
-ghost use Rattle.numbers.specs.Numbers.{numberAt, byteTest, encode};
+ghost use Rattle.numbers.specs.Numbers.{readAt, byteTest, encode};
 ghost use Rattle.numbers.specs.Format as Format;
 ghost use Rattle.numbers.specs.Format.{encodeAll};
 
 use verdict::{Verdict, need};
 
-// What stands at a place: a value and the place after it, or a refusal's number and the first byte of the number at fault.
+// What reading a number answers: its value and how many bytes it took, or a refusal's number and the first byte of the number at fault.
+#[derive(Drop)]
+pub enum NumberRead {
+    Done(u64, usize),
+    Refused(u8, usize),
+}
+
+// A number of a file: a value and the place after it, from which the file goes on, or a refusal's number and place.
 #[derive(Drop)]
 pub enum Number {
     Value(u64, usize),
@@ -30,11 +37,12 @@ fn byte_test(i: usize, b: u64) -> Verdict
     let Verdict::Fine = shortest else {
         return shortest;
     };
-    need((i < 9) | (b == 1), 21)
+    need((i < 9) | (b == 1), 23)
 }
 
-pub fn read(bytes: &[u8], at: usize) -> Number
-    ensures { result ≡ numberAt bytes.now at }
+// Who goes on behind the number adds how many bytes it took to its place.
+pub fn read(bytes: &[u8], at: usize) -> NumberRead
+    ensures { result ≡ readAt bytes.now at }
 {
     let mut value: u64 = 0;
     let mut weight: u64 = 1;
@@ -42,15 +50,15 @@ pub fn read(bytes: &[u8], at: usize) -> Number
     let mut i: usize = 0;
     loop {
         if bytes.len() <= place {
-            return Number::Fault(20, at);
+            return NumberRead::Refused(20, at);
         }
         let b = wide(bytes[place]);
         let verdict = byte_test(i, b);
         if let Verdict::Against(why) = verdict {
-            return Number::Fault(why, at);
+            return NumberRead::Refused(why, at);
         }
         if b < 128 {
-            return Number::Value(value + b * weight, place + 1);
+            return NumberRead::Done(value + b * weight, i + 1);
         }
         value = value + (b - 128) * weight;
         weight = weight * 128;

@@ -12,10 +12,10 @@ pub pattern-a : fileReading (patternFormat 3) (0x03 ∷ 0x01 ∷ 0x05 ∷ 0x02 �
 unfolding fileReading patternFormat patternThen reading many numberAt groups byteTest sizeTest setTest spaceTest inOrder need
 pattern-a = refl
 
--- bytes `80 00` as n are LONG, place 0; `80` alone is CUT, place 0
-pub long-states : fileReading (patternFormat 2048) (0x80 ∷ 0x00 ∷ []) ≡ refused 21 0
+-- bytes `80 00` as n are PADDED, place 0; `80` alone is CUT, place 0
+pub padded-states : fileReading (patternFormat 2048) (0x80 ∷ 0x00 ∷ []) ≡ refused 21 0
 unfolding fileReading patternFormat patternThen reading numberAt groups byteTest sizeTest inOrder need
-long-states = refl
+padded-states = refl
 
 pub cut-states : fileReading (patternFormat 2048) (0x80 ∷ []) ≡ refused 20 0
 unfolding fileReading patternFormat patternThen reading numberAt groups byteTest sizeTest inOrder need
@@ -25,12 +25,12 @@ pub no-bytes : fileReading (patternFormat 2048) [] ≡ refused 20 0
 unfolding fileReading patternFormat patternThen reading numberAt groups
 no-bytes = refl
 
--- the earlier number decides: BAD-SIZE of n before LONG of k
+-- the earlier number decides: BAD-SIZE of n before PADDED of k
 pub earlier-first : fileReading (patternFormat 2048) (0x41 ∷ 0x80 ∷ 0x00 ∷ []) ≡ refused 10 0
 unfolding fileReading patternFormat patternThen reading numberAt groups byteTest sizeTest inOrder need
 earlier-first = refl
 
--- form before range: 82 00 is LONG and no set of one state either
+-- form before range: 82 00 is PADDED and no set of one state either
 pub form-first : fileReading (patternFormat 2048) (0x01 ∷ 0x01 ∷ 0x82 ∷ 0x00 ∷ []) ≡ refused 21 2
 unfolding fileReading patternFormat patternThen reading numberAt groups byteTest sizeTest setTest spaceTest inOrder need
 form-first = refl

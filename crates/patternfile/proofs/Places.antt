@@ -19,17 +19,17 @@ use Rattle.pattern.proofs.Validity.{size-fine, set-fine}
 use Rattle.numbers.specs.declared.Number.TheVariants.{Value, Fault}
 use Rattle.numbers.specs.Numbers.{encode, numberAt, AreBytes}
 use Rattle.numbers.specs.Format.{Format, ended, item, refused, fileReading, encodeAll, Fits}
-use Rattle.numbers.specs.Faults.{After, here, taken, through, StoppedBy, by-form, by-range, by-gate, by-tail, Stops}
+use Rattle.numbers.specs.Faults.{Padded, TooBig, After, here, taken, through, StoppedBy, by-form, by-range, by-gate, by-tail, Stops}
 use Rattle.numbers.proofs.Groups.{one-byte}
 use Rattle.numbers.proofs.RoundTrip.{read-after-write}
-use Rattle.numbers.proofs.Faults.{cut-exactly, long-exactly, fault-is}
+use Rattle.numbers.proofs.Faults.{cut-exactly, padded-exactly, too-big-exactly, fault-is}
 use Rattle.numbers.proofs.Formats.{refused-got, file-read-after-write}
 use Rattle.numbers.proofs.Places.{first-fault, after-fits, AfterMany, among, behind, after-many}
 use Rattle.patternfile.specs.declared.PatternRead.{PatternRead}
 use Rattle.patternfile.specs.declared.PatternRead.TheVariants.{Done, Refused}
 use Rattle.patternfile.specs.PatternFile.{numbersOf, startsThen, setsThen, afterLetters, patternThen, patternFormat}
 use Rattle.patternfile.specs.Reader.{Reads}
-use Rattle.patternfile.specs.Refusals.{RefusedAt, bad-states, bad-letters, no-room, bad-set, cut, long, tail}
+use Rattle.patternfile.specs.Refusals.{RefusedAt, bad-states, bad-letters, no-room, bad-set, cut, padded, too-big, tail}
 
 -- ---- what each test refuses
 
@@ -54,9 +54,10 @@ space-against room count h = let (i, j) = need-against (leb count room) 14 h in 
 form-refused : {room : ℕ} {s : List ℕ} {w place : ℕ} → numberAt s place ≡ Fault w place → RefusedAt room s w place
 form-refused {room} {s} {w} {place} h = go (fault-is s place h).0
   where
-    go : (w ≡ 20) ⊎ (w ≡ 21) → RefusedAt room s w place
+    go : (w ≡ 20) ⊎ ((w ≡ 21) ⊎ (w ≡ 23)) → RefusedAt room s w place
     go (inl e) = rw e (cut ((cut-exactly s place).0 (rw e at h)))
-    go (inr e) = rw e (long ((long-exactly s place).0 (rw e at h)))
+    go (inr (inl e)) = rw e (padded ((padded-exactly s place).0 (rw e at h)))
+    go (inr (inr e)) = rw e (too-big ((too-big-exactly s place).0 (rw e at h)))
 
 -- ---- the first two numbers of a file
 
@@ -173,6 +174,27 @@ unfolding patternFormat patternThen
 refusal-place {s} {old} {w = w} {place = place} are r =
     let f : Stops (patternFormat (length old)) s 0 w place = (first-fault (patternFormat (length old)) s w place are).0 r.fault in
     in-states f.follows f.stopped (f.placed ∙ zero-add _) f.bytes
+
+-- by two of the numbers a host knows how the number there is badly written
+pub padded-there : {room : ℕ} {s : List ℕ} {w place : ℕ} → RefusedAt room s w place → w ≡ 21 → Padded 0 (drop place s)
+padded-there (padded h) e = h
+padded-there (bad-states q h) e = absurd (omega arith)
+padded-there (bad-letters q h) e = absurd (omega arith)
+padded-there (no-room p q h) e = absurd (omega arith)
+padded-there (bad-set p q h) e = absurd (omega arith)
+padded-there (cut h) e = absurd (omega arith)
+padded-there (tail P x y l f) e = absurd (omega arith)
+padded-there (too-big h) e = absurd (omega arith)
+
+pub too-big-there : {room : ℕ} {s : List ℕ} {w place : ℕ} → RefusedAt room s w place → w ≡ 23 → TooBig 0 (drop place s)
+too-big-there (too-big h) e = h
+too-big-there (bad-states q h) e = absurd (omega arith)
+too-big-there (bad-letters q h) e = absurd (omega arith)
+too-big-there (no-room p q h) e = absurd (omega arith)
+too-big-there (bad-set p q h) e = absurd (omega arith)
+too-big-there (cut h) e = absurd (omega arith)
+too-big-there (padded h) e = absurd (omega arith)
+too-big-there (tail P x y l f) e = absurd (omega arith)
 
 -- and it is refused so exactly where reading stops there
 pub refusal-exactly : (s old : List ℕ) (r : PatternRead) (new : List ℕ) {w place : ℕ} → AreBytes s → Reads s old r new → (r ≡ Refused w place) ↔ Stops (patternFormat (length old)) s 0 w place

@@ -24,7 +24,7 @@ use Rattle.patternfile.specs.PatternFile.{patternFormat}
 use Rattle.patternfile.specs.Reader as Reader
 use Rattle.patternfile.specs.Reader.{Reads, FileOf}
 use Rattle.patternfile.specs.Writer.{Writes, Allowed}
-use Rattle.patternfile.specs.Refusals.{RefusedAt, bad-states, bad-letters, no-room, bad-set, cut, long, tail, readNumbers, writeNumbers}
+use Rattle.patternfile.specs.Refusals.{RefusedAt, bad-states, bad-letters, no-room, bad-set, cut, padded, too-big, tail, readNumbers, writeNumbers}
 use Rattle.patternfile.specs.Meaning.{Readable, valuesAt, HonestRead, HonestWrite}
 use Rattle.patternfile.proofs.Contents.{Contents, accepted-valid, file-bytes}
 use Rattle.patternfile.proofs.Refusals.{write-lines, write-fine, among-write}
@@ -40,8 +40,9 @@ refused-number (bad-letters e h) = Memᴰ.head refl
 refused-number (bad-set e f h) = Memᴰ.tail (Memᴰ.head refl)
 refused-number (no-room e f h) = Memᴰ.tail (Memᴰ.tail (Memᴰ.head refl))
 refused-number (cut h) = Memᴰ.tail (Memᴰ.tail (Memᴰ.tail (Memᴰ.head refl)))
-refused-number (long h) = Memᴰ.tail (Memᴰ.tail (Memᴰ.tail (Memᴰ.tail (Memᴰ.head refl))))
+refused-number (padded h) = Memᴰ.tail (Memᴰ.tail (Memᴰ.tail (Memᴰ.tail (Memᴰ.head refl))))
 refused-number (tail P x y l f) = Memᴰ.tail (Memᴰ.tail (Memᴰ.tail (Memᴰ.tail (Memᴰ.tail (Memᴰ.head refl)))))
+refused-number (too-big h) = Memᴰ.tail (Memᴰ.tail (Memᴰ.tail (Memᴰ.tail (Memᴰ.tail (Memᴰ.tail (Memᴰ.head refl))))))
 
 -- a refusal has one of the reader's numbers
 pub read-number : {s old new : List ℕ} {w place : ℕ} → AreBytes s → Reads s old (Read.Refused w place) new → Among readNumbers (Against w)

@@ -10,7 +10,7 @@ use Rattle.pattern.specs.Pattern.{Pattern}
 use Rattle.pattern.specs.Refusals.{MasksGood, shapeLines}
 use Rattle.numbers.specs.declared.Number.TheVariants.{Value}
 use Rattle.numbers.specs.Numbers.{numberAt}
-use Rattle.numbers.specs.Faults.{EndsEarly, BadlyWritten}
+use Rattle.numbers.specs.Faults.{EndsEarly, Padded, TooBig}
 use Rattle.patternfile.specs.PatternFile.{fileBytes}
 use Rattle.patternfile.specs.Reader.{FileOf}
 
@@ -22,9 +22,10 @@ pub data RefusedAt (room : ℕ) (s : List ℕ) : ℕ → ℕ → Type 0 where
   no-room : {n k : ℕ} → numberAt s 0 ≡ Value n 1 → numberAt s 1 ≡ Value k 2 → room < n * k → RefusedAt room s 14 2
   -- 12 BAD-SET: at the first byte of a number that has a bit n or above
   bad-set : {n v next place : ℕ} → numberAt s 0 ≡ Value n 1 → numberAt s place ≡ Value v next → (Good n v → ⊥) → RefusedAt room s 12 place
-  -- 20 CUT, 21 LONG: at the first byte of the number, the data's length if no byte of it came
+  -- 20 CUT, 21 PADDED, 23 TOO-BIG: at the first byte of the number, the data's length if no byte of it came
   cut : {place : ℕ} → EndsEarly 0 (drop place s) → RefusedAt room s 20 place
-  long : {place : ℕ} → BadlyWritten 0 (drop place s) → RefusedAt room s 21 place
+  padded : {place : ℕ} → Padded 0 (drop place s) → RefusedAt room s 21 place
+  too-big : {place : ℕ} → TooBig 0 (drop place s) → RefusedAt room s 23 place
   -- 22 TAIL: at the first byte behind what is a whole file
   tail : {place : ℕ} (P : Pattern) (x y : ℕ) → place < length s → FileOf room (take place s) P x y → RefusedAt room s 22 place
 
@@ -34,7 +35,7 @@ writeLines P x y room =
     shapeLines P (line 12 (MasksGood P × Good P.states x × Good P.states y) (line 14 (length (fileBytes P x y) ≤ room) none))
 
 abbrev pub readNumbers : List ℕ
-readNumbers = 10 ∷ 12 ∷ 14 ∷ 20 ∷ 21 ∷ 22 ∷ []
+readNumbers = 10 ∷ 12 ∷ 14 ∷ 20 ∷ 21 ∷ 22 ∷ 23 ∷ []
 
 abbrev pub writeNumbers : List ℕ
 writeNumbers = 10 ∷ 11 ∷ 12 ∷ 14 ∷ []

@@ -12,7 +12,7 @@ ghost use Rattle.patternfile.specs.Reader.{Reads};
 ghost use Rattle.patternfile.specs.Writer.{writeTest, Writes};
 ghost use Rattle.patternfile.specs.Parts.{Judges, passed, stoppedBy, Filled};
 
-use numbers::Number;
+use numbers::{Number, NumberRead};
 use verdict::Verdict;
 
 // What reading answers: the file's numbers, its rows being in the buffer lent; or a refusal's number and place.
@@ -71,21 +71,23 @@ fn product(states: usize, letters: usize) -> usize
 fn read_size(bytes: &[u8], at: usize, most: usize) -> Number
     ensures { result ≡ heldTo (sizeTest most) at (numberAt bytes.now at) }
 {
-    let size = numbers::read(bytes, at);
-    let Number::Value(v, next) = size else {
-        return size;
-    };
-    numbers::ruled(pattern::size_test(most, index(v)), at, v, next)
+    match numbers::read(bytes, at) {
+        NumberRead::Done(v, took) => {
+            numbers::ruled(pattern::size_test(most, index(v)), at, v, at + took)
+        }
+        NumberRead::Refused(why, place) => Number::Fault(why, place),
+    }
 }
 
 fn read_set(bytes: &[u8], at: usize, states: usize) -> Number
     ensures { result ≡ heldTo (setTest states) at (numberAt bytes.now at) }
 {
-    let set = numbers::read(bytes, at);
-    let Number::Value(v, next) = set else {
-        return set;
-    };
-    numbers::ruled(pattern::set_test(states, v), at, v, next)
+    match numbers::read(bytes, at) {
+        NumberRead::Done(v, took) => {
+            numbers::ruled(pattern::set_test(states, v), at, v, at + took)
+        }
+        NumberRead::Refused(why, place) => Number::Fault(why, place),
+    }
 }
 
 // Judges so many sets from a place on.
@@ -167,11 +169,11 @@ pub fn fill(bytes: &[u8], at: usize, rows: &mut [u64], count: usize)
     let mut place = at;
     while i < count {
         let row = numbers::read(bytes, place);
-        let Number::Value(v, next) = row else {
+        let NumberRead::Done(v, took) = row else {
             return;
         };
         rows[i] = v;
-        place = next;
+        place = place + took;
         i = i + 1;
     }
 }

@@ -65,6 +65,7 @@ use Rattle.patternfile.specs.declared.PatternRead.{PatternRead}
 use Rattle.patternfile.specs.declared.Written.{Written}
 use Rattle.patternfile.proofs.Returned.{read-number, read-honest, write-number, write-honest}
 use Rattle.patternfile.proofs.Longest.{file-short}
+use Rattle.patternfile.proofs.Places.{padded-there, too-big-there}
 use Rattle.patternfile.proofs.RoundTrip.{read-after-write, write-after-read}
 use Rattle.expressions.specs.Expressions.{Expr, Takes}
 use Rattle.expressions.specs.Texts.{Means}
@@ -89,7 +90,7 @@ use Rattle.pressbadger.specs.declared.texts.PbExpressed.{PbExpressed}
 use Rattle.pressbadger.specs.Judges.{judgeAnswer}
 use Rattle.pressbadger.specs.Files.{patternAnswer, ReadPattern, writtenAnswer, WrittenPattern}
 use Rattle.pressbadger.specs.Texts.{expressedAnswer, ExpressedTexts}
-use Rattle.pressbadger.specs.Promises.{SAME, DIFFERENT, FULL, PROVED, DONE, WITHIN, NOT-WITHIN, NO-ROOM, OneOf, compareRefusals, checkRefusals, judgeRefusals, readRefusals, writeRefusals, RoomFor, linesOf, ComparedMeans, LeftRecords, LeftLists, WalkedRecords, WalkedLists, SameRecords, LessRoom, WithinMeans, CheckedMeans, JudgedMeans, donePattern, maxRows, longestFile, PatternMeans, doneWritten, WrittenMeans, textRefusals, doneExpressed, patternLeft, ExpressedMeans}
+use Rattle.pressbadger.specs.Promises.{SAME, DIFFERENT, FULL, PROVED, DONE, WITHIN, NOT-WITHIN, NO-ROOM, OneOf, compareRefusals, checkRefusals, judgeRefusals, readRefusals, writeRefusals, RoomFor, linesOf, ComparedMeans, LeftRecords, LeftLists, WalkedRecords, WalkedLists, SameRecords, LessRoom, WithinMeans, CheckedMeans, JudgedMeans, donePattern, maxRows, longestFile, PatternMeans, doneWritten, WrittenMeans, textRefusals, doneExpressed, patternLeft, ExpressedMeans, PADDED, TOO-BIG}
 
 -- every refusal is 10 or more, so an answer with a lower number is none
 high : (numbers : List ℕ) {w : ℕ} → allFrom 10 numbers ≡ true → OneOf numbers w → 10 ≤ w
@@ -635,6 +636,12 @@ module _ {bytes : List ℕ} (are : AreBytes bytes) (old : List ℕ) where
   named-read (PatternRead.Done n k finals x y) new h = (λ m. omega (arith, high readRefusals refl m), λ i. absurd i)
   named-read (PatternRead.Refused w place) new h = (λ m. tt, λ i. (read-number {s = bytes} {old = old} {new = new} are h).among w refl)
 
+  padded-refuses : OneOf readRefusals PADDED
+  padded-refuses = Memᴰ.tail (Memᴰ.tail (Memᴰ.tail (Memᴰ.tail (Memᴰ.head refl))))
+
+  too-big-refuses : OneOf readRefusals TOO-BIG
+  too-big-refuses = Memᴰ.tail (Memᴰ.tail (Memᴰ.tail (Memᴰ.tail (Memᴰ.tail (Memᴰ.tail (Memᴰ.head refl))))))
+
   read-means : (r : PatternRead) (new : List ℕ) → Reads bytes old r new → PatternMeans bytes old (patternAnswer r) new
   read-means r new k =
       let h = read-honest bytes old are r new k in
@@ -648,6 +655,8 @@ module _ {bytes : List ℕ} (are : AreBytes bytes) (old : List ℕ) where
           λ p. let (i, e, d) = (h.refused-by w place).1 p in (named.1 i, e, d),
         );
         reason = λ m. h.reason (named.0 m);
+        padded = λ e. padded-there (h.reason (named.0 (rw e padded-refuses))) e;
+        too-big = λ e. too-big-there (h.reason (named.0 (rw e too-big-refuses))) e;
         quiet = λ m. let (v, l) = h.quiet (named.0 m) in (patterned refl v, l);
       }
     where

@@ -1,6 +1,6 @@
 -- What a host is promised of each call (the scope, §13): over the numbers that are returned, and over the memory that is lent. It is shown in
 -- proofs/Promises of every result that a contract allows, and `include/pressbadger.h` says it in words.
---   SAME .. TAIL        the numbers of the answers, by the names that the scope gives them (§7); OneOf: a number is one of several
+--   SAME .. TOO-BIG     the numbers of the answers, by the names that the scope gives them (§7); OneOf: a number is one of several
 --   compareRefusals ..  the refusals of each call
 --   ComparedMeans       what a PbCompared means: answered or refused, SAME, DIFFERENT and FULL, and the counts
 --   LeftLists, LeftRecords
@@ -31,7 +31,7 @@ use Rattle.comparison.specs.Answers.{Lent, answerOf}
 use Rattle.comparison.specs.Meaning.{SidesGood}
 use Rattle.evidence.specs.Evidence.{Offer, ValidOffer}
 use Rattle.evidence.specs.Meaning.{checkLines, Holding, FailsAt}
-use Rattle.numbers.specs.Faults.{Stops}
+use Rattle.numbers.specs.Faults.{Padded, TooBig, Stops}
 use Rattle.patternfile.specs.PatternFile.{fileBytes, patternFormat}
 use Rattle.patternfile.specs.Writer.{Allowed}
 use Rattle.patternfile.specs.Refusals.{RefusedAt, writeLines}
@@ -104,11 +104,14 @@ BAD-LIST = 16
 abbrev pub CUT : ℕ
 CUT = 20
 
-abbrev pub LONG : ℕ
-LONG = 21
+abbrev pub PADDED : ℕ
+PADDED = 21
 
 abbrev pub TAIL : ℕ
 TAIL = 22
+
+abbrev pub TOO-BIG : ℕ
+TOO-BIG = 23
 
 abbrev pub SYNTAX : ℕ
 SYNTAX = 30
@@ -133,7 +136,7 @@ abbrev pub judgeRefusals : List ℕ
 judgeRefusals = BAD-SIZE ∷ BAD-TABLE ∷ BAD-SET ∷ BAD-LETTER ∷ []
 
 abbrev pub readRefusals : List ℕ
-readRefusals = BAD-SIZE ∷ BAD-SET ∷ NO-ROOM ∷ CUT ∷ LONG ∷ TAIL ∷ []
+readRefusals = BAD-SIZE ∷ BAD-SET ∷ NO-ROOM ∷ CUT ∷ PADDED ∷ TAIL ∷ TOO-BIG ∷ []
 
 abbrev pub writeRefusals : List ℕ
 writeRefusals = BAD-SIZE ∷ BAD-TABLE ∷ BAD-SET ∷ NO-ROOM ∷ []
@@ -287,6 +290,9 @@ pub record PatternMeans (bytes old : List ℕ) (r : PbPattern) (new : List ℕ) 
   pub refused : OneOf readRefusals r.answer ↔ (Readable (length old) bytes → ⊥)
   pub refused-by : (w place : ℕ) → (OneOf readRefusals r.answer × (r.answer ≡ w) × (r.place ≡ place)) ↔ Stops (patternFormat (length old)) bytes 0 w place
   pub reason : OneOf readRefusals r.answer → RefusedAt (length old) bytes r.answer r.place
+  -- PADDED and TOO-BIG say how the number at the place is badly written
+  pub padded : r.answer ≡ PADDED → Padded 0 (drop r.place bytes)
+  pub too-big : r.answer ≡ TOO-BIG → TooBig 0 (drop r.place bytes)
   pub quiet : OneOf readRefusals r.answer → (r ≡ refusedPattern r.answer r.place) × (new ≡ old)
 
 abbrev pub doneWritten : ℕ → PbWritten

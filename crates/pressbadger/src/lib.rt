@@ -42,7 +42,7 @@ pub extern "C" fn pb_judge(
 // The version of this interface.
 #[unsafe(no_mangle)]
 pub extern "C" fn pb_version() -> u32
-    ensures { result ≡ 1 }
+    ensures { result ≡ 2 }
 {
-    1
+    2
 }

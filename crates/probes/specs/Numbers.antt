@@ -2,14 +2,14 @@
 use Rattle.std.specs.Prelude.{◌≡◌, List, ℕ, ◌+◌, ◌≤◌, length}
 use Rattle.lent.specs.Lent.{Put}
 use Rattle.numbers.specs.Numbers.{encode}
-use Rattle.numbers.specs.declared.Number.{Number}
-use Rattle.numbers.specs.declared.Number.TheVariants.{Value, Fault}
+use Rattle.numbers.specs.declared.NumberRead.{NumberRead}
+use Rattle.numbers.specs.declared.NumberRead.TheVariants.{Done, Refused}
 use Rattle.probes.specs.declared.Probed.{Probed}
 use Rattle.probes.specs.declared.ProbedNumber.{ProbedNumber}
 
-abbrev pub probedNumber : Number → ProbedNumber
-probedNumber (Value v next) = record { answer = 7; value = v; place = next }
-probedNumber (Fault w place) = record { answer = w; value = 0; place = place }
+abbrev pub probedNumber : NumberRead → ProbedNumber
+probedNumber (Done v n) = record { answer = 7; value = v; took = n; place = 0 }
+probedNumber (Refused w place) = record { answer = w; value = 0; took = 0; place = place }
 
 -- 7 and the place after it where the number's bytes fit; else 14, and nothing is written
 pub record WritesNumber (old : List ℕ) (at v : ℕ) (r : Probed) (new : List ℕ) : Type 0 where

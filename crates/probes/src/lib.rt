@@ -7,11 +7,11 @@ ghost use Rattle.verdict.specs.Tests.{Decides};
 ghost use Rattle.sets.specs.Sets.{Within, meets};
 ghost use Rattle.pattern.specs.Pattern.{patternOf};
 ghost use Rattle.pattern.specs.Tests.{patternTest};
-ghost use Rattle.numbers.specs.Numbers.{numberAt};
+ghost use Rattle.numbers.specs.Numbers.{readAt};
 ghost use Rattle.probes.specs.Probes.{Probes, ProbesNext, ProbesClosing, ProbesCongruence, stateTest};
 ghost use Rattle.probes.specs.Numbers.{probedNumber, WritesNumber};
 
-use numbers::Number;
+use numbers::NumberRead;
 use sets::States;
 use verdict::Verdict;
 
@@ -23,12 +23,13 @@ pub struct Probed {
     pub value: u64,
 }
 
-// 7 with a number and the place after it, or a fault with its place.
+// 7 with a number and how many bytes it took, or a fault with its place; the rest is 0.
 #[repr(C)]
 #[derive(Drop)]
 pub struct ProbedNumber {
     pub answer: u8,
     pub value: u64,
+    pub took: usize,
     pub place: usize,
 }
 
@@ -164,18 +165,20 @@ pub extern "C" fn probe_congruent(lefts: &[u64], rights: &[u64], a: u64, b: u64)
 // The number at a place of some bytes.
 #[unsafe(no_mangle)]
 pub extern "C" fn probe_read_number(bytes: &[u8], at: usize) -> ProbedNumber
-    ensures { result ≡ probedNumber (numberAt bytes.now at) }
+    ensures { result ≡ probedNumber (readAt bytes.now at) }
 {
     let number = numbers::read(bytes, at);
     match number {
-        Number::Value(value, next) => ProbedNumber {
+        NumberRead::Done(value, took) => ProbedNumber {
             answer: 7,
             value: value,
-            place: next,
+            took: took,
+            place: 0,
         },
-        Number::Fault(why, place) => ProbedNumber {
+        NumberRead::Refused(why, place) => ProbedNumber {
             answer: why,
             value: 0,
+            took: 0,
             place: place,
         },
     }

@@ -321,15 +321,18 @@ pub fn congruent(lefts: &[u64], rights: &[u64], a: u64, b: u64) -> Result<bool, 
     Ok(value == 1)
 }
 
-/// The number at a place and the place after it, or the fault and its place.
+/// The number at a place and how many bytes it took, or the fault and its place.
 pub fn read_number(bytes: &[u8], at: usize) -> Result<(u64, usize), (u64, usize)> {
     let bytes = Lent::holding(bytes);
     let probed = probes::read_number(bytes.get(), at);
     bytes.assert_unchanged();
     match u64::from(probed.answer) {
-        DONE => Ok((probed.value, probed.place)),
+        DONE => {
+            assert_eq!(probed.place, 0, "at {at}");
+            Ok((probed.value, probed.took))
+        }
         fault => {
-            assert_eq!(probed.value, 0, "fault {fault}");
+            assert_eq!((probed.value, probed.took), (0, 0), "fault {fault}");
             Err((fault, probed.place))
         }
     }

@@ -14,11 +14,13 @@ pub struct Probed {
 #[repr(C)]
 #[derive(Clone, Copy, Debug, PartialEq, Eq)]
 pub struct ProbedNumber {
-    /// DONE, CUT or LONG.
+    /// DONE, CUT, PADDED or TOO-BIG.
     pub answer: u8,
     /// The number, 0 on a fault.
     pub value: u64,
-    /// The place after the number, or that of the fault.
+    /// How many bytes it took, 0 on a fault.
+    pub took: usize,
+    /// The place of the fault, 0 on DONE.
     pub place: usize,
 }
 

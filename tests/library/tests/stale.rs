@@ -129,18 +129,18 @@ fn a_library_older_than_what_it_is_made_of_is_not_linked() {
         None,
         "libpressbadger.a is not there: run `bin/build pressbadger`",
     );
-    repository.has_library(built, 1);
+    repository.has_library(built, 2);
     repository.answers(None);
     repository.has("crates/report/src/lib.rt", "// not of the library");
     repository.answers(None);
     repository.has("crates/walk/src/lib.rt", "// changed");
     repository.stops(None, "crates/walk/src/lib.rt: run `bin/build pressbadger`");
-    repository.has_library(built, 1);
+    repository.has_library(built, 2);
     repository.answers(None);
     fs::remove_file(repository.root.join("crates/walk/proofs/run/Answers.antt"))
         .expect("it was there");
     repository.stops(None, "crates/walk/proofs/run: run `bin/build pressbadger`");
-    repository.has_library(built, 1);
+    repository.has_library(built, 2);
     repository.answers(None);
     repository.has("crates.txt", "walk:\npressbadger: walk\n");
     repository.stops(None, "crates.txt: run `bin/build pressbadger`");
@@ -150,12 +150,12 @@ fn a_library_older_than_what_it_is_made_of_is_not_linked() {
 #[test]
 fn a_library_of_another_version_is_not_asked() {
     let repository = Repository::new("version");
-    repository.has_library("elsewhere", 1);
-    repository.answers(Some("elsewhere"));
     repository.has_library("elsewhere", 2);
+    repository.answers(Some("elsewhere"));
+    repository.has_library("elsewhere", 1);
     repository.stops(
         Some("elsewhere"),
-        "libpressbadger.a has version 2 of the interface",
+        "libpressbadger.a has version 1 of the interface",
     );
     repository.stops(Some("nowhere"), "libpressbadger.a is not there");
 }

@@ -1,7 +1,7 @@
 //! `compare` as a process: its output, byte for byte, is what the scope, §10, says of its input.
 
 use programs::{written_for, written_for_file, written_for_pieces};
-use reference::damage::{damaged, DAMAGES};
+use reference::damage::{damaged, every_last_byte, DAMAGES};
 use reference::file::LONGEST_FILE;
 use reference::pattern::{Pattern, MAX_LETTERS};
 use reference::questions::{figure_five, long_way, question, switches, Question};
@@ -58,6 +58,14 @@ fn damaged_files_are_refused_as_the_reference_does() {
             &question,
             DAMAGES[turn % DAMAGES.len()],
         ));
+    }
+}
+
+/// Catches a number badly written that is printed under another number: every length with every last byte.
+#[test]
+fn every_length_and_last_byte_of_a_number_is_answered_as_the_reference_does() {
+    for input in every_last_byte() {
+        holds(&input);
     }
 }
 

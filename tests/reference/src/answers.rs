@@ -28,8 +28,9 @@ answers! {
     BAD_LETTER = 15, "BAD-LETTER", "A sequence has a letter k or above.";
     BAD_LIST = 16, "BAD-LIST", "The evidence has over 1024 pairs, or sides of different length.";
     CUT = 20, "CUT", "The file ends before or within a number.";
-    LONG = 21, "LONG", "A number is badly written.";
+    PADDED = 21, "PADDED", "A number's last group is 0 and another came before it.";
     TAIL = 22, "TAIL", "There are bytes after the last number.";
+    TOO_BIG = 23, "TOO-BIG", "A number has a tenth byte other than 00 or 01.";
     SYNTAX = 30, "SYNTAX", "No right text has that name or byte there.";
     TOO_MANY = 31, "TOO-MANY", "No state is left for a name or a start.";
     TOO_DEEP = 32, "TOO-DEEP", "32 parentheses are open, and one more opens.";

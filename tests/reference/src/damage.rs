@@ -1,7 +1,7 @@
 //! Damaged pattern files, each with one kind of fault put in.
 
 use crate::file::values;
-use crate::numbers::{encode, FOLLOWS};
+use crate::numbers::{encode, FOLLOWS, MAX_BYTES};
 use crate::pattern::{all_states, MAX_LETTERS, MAX_STATES};
 use crate::questions::Question;
 use crate::random::Random;
@@ -13,7 +13,7 @@ pub enum Damage {
     ByteChange,
     /// The end is cut off.
     Cut,
-    /// A number gets needless groups.
+    /// A number gets needless groups, within ten bytes.
     Padded,
     /// A number is replaced by one of ten bytes.
     TenBytes,
@@ -50,6 +50,17 @@ pub fn damaged(random: &mut Random, question: &Question, damage: Damage) -> Vec<
     }
 }
 
+/// Files of one state and one letter whose finals are written in every length with every last byte: after 0 to 9 bytes that
+/// say that another follows, each byte, so that each tenth byte is among them.
+pub fn every_last_byte() -> impl Iterator<Item = Vec<u8>> {
+    (0..10).flat_map(|groups| {
+        (0..=255).map(move |last| {
+            let finals = [&vec![FOLLOWS; groups][..], &[last]].concat();
+            [&[1, 1][..], &finals, &[0, 0, 0]].concat()
+        })
+    })
+}
+
 fn file(numbers: &[u64]) -> Vec<u8> {
     numbers.iter().copied().flat_map(encode).collect()
 }
@@ -73,10 +84,11 @@ fn cut(random: &mut Random, mut bytes: Vec<u8>) -> Vec<u8> {
 
 fn padded(random: &mut Random, value: u64) -> Vec<u8> {
     let mut bytes = encode(value);
+    bytes.extend(vec![FOLLOWS; random.below(3) as usize]);
+    bytes.truncate(MAX_BYTES - 1);
     for byte in &mut bytes {
         *byte |= FOLLOWS;
     }
-    bytes.extend(vec![FOLLOWS; random.below(3) as usize]);
     bytes.push(0);
     bytes
 }

@@ -93,11 +93,11 @@ fn read_number(
         answer,
         place: *place,
     };
-    let (value, after) = numbers::read(bytes, *place).map_err(fault)?;
+    let (value, took) = numbers::read(bytes, *place).map_err(fault)?;
     if !range.contains(&value) {
         return Err(fault(out_of_range));
     }
-    *place = after;
+    *place += took;
     Ok(value)
 }
 

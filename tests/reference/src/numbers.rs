@@ -1,6 +1,6 @@
 //! One number in groups of seven bits, lowest group first.
 
-use crate::answers::{CUT, LONG};
+use crate::answers::{CUT, PADDED, TOO_BIG};
 
 /// The most bytes a number may have.
 pub const MAX_BYTES: usize = 10;
@@ -20,21 +20,19 @@ pub fn encode(value: u64) -> Vec<u8> {
     bytes
 }
 
-/// The number that starts at a place and the place after it, or CUT or LONG.
+/// The value of the number that starts at a place and how many bytes it took, or CUT, PADDED or TOO-BIG.
 pub fn read(bytes: &[u8], place: usize) -> Result<(u64, usize), u64> {
     let mut value = 0;
     for (group, &byte) in bytes.iter().skip(place).take(MAX_BYTES).enumerate() {
-        if group == MAX_BYTES - 1 && byte != 1 {
-            return Err(LONG);
+        if byte == 0 && group > 0 {
+            return Err(PADDED);
+        }
+        if byte > 1 && group == MAX_BYTES - 1 {
+            return Err(TOO_BIG);
         }
         value |= u64::from(byte & !FOLLOWS) << (7 * group);
         if byte & FOLLOWS == 0 {
-            let needless = byte == 0 && group > 0;
-            return if needless {
-                Err(LONG)
-            } else {
-                Ok((value, place + group + 1))
-            };
+            return Ok((value, group + 1));
         }
     }
     Err(CUT)

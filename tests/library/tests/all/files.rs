@@ -4,7 +4,7 @@ use crate::draw::{all_lists, any_question, blank, small_question, EDGES};
 use library::faults::{assert_refused_in_order, beyond, of_pattern, Fault};
 use library::{calls, cases, rounds::rounds};
 use reference::answers::*;
-use reference::damage::{damaged, DAMAGES};
+use reference::damage::{damaged, every_last_byte, DAMAGES};
 use reference::file::{read, values, write, Reading, LONGEST_FILE};
 use reference::numbers::encode;
 use reference::pattern::{all_states, Pattern};
@@ -163,7 +163,7 @@ fn assert_second_form(bytes: &[u8], reading: &Reading) {
 #[test]
 fn damaged_files_are_read_as_the_reference_does() {
     let mut random = Random::new(110);
-    let mut seen = [0; 23];
+    let mut seen = [0; 24];
     for round in 0..rounds(6000) {
         let question = match round % 2 {
             0 => any_question(&mut random),
@@ -180,7 +180,7 @@ fn damaged_files_are_read_as_the_reference_does() {
             seen[reading.answer as usize] += 1;
         }
     }
-    for answer in [DONE, BAD_SIZE, BAD_SET, NO_ROOM, CUT, LONG, TAIL] {
+    for answer in [DONE, BAD_SIZE, BAD_SET, NO_ROOM, CUT, PADDED, TAIL, TOO_BIG] {
         assert!(seen[answer as usize] > 1000, "{seen:?}");
     }
 }
@@ -285,18 +285,36 @@ fn every_number_is_held_to_its_shortest_form() {
         for place in 0..numbers.len() {
             let with = |form: &[u8]| with_form(&numbers, place, form);
             let mut padded = encode(numbers[place]);
-            for last in padded.len() - 1..10 {
+            for last in padded.len() - 1..9 {
                 padded[last] |= 0x80;
                 padded.push(0);
-                assert_eq!(assert_read(&with(&padded), ROWS).answer, LONG);
+                assert_eq!(assert_read(&with(&padded), ROWS).answer, PADDED);
             }
-            for tenth in [0x00, 0x01, 0x02, 0x7f, 0x80, 0x81, 0xff] {
+            for tenth in 0..=255 {
                 for group in [0x80, 0xff] {
-                    assert_read(&with(&[&[group; 9][..], &[tenth]].concat()), ROWS);
+                    let bytes = with(&[&[group; 9][..], &[tenth]].concat());
+                    let answer = assert_read(&bytes, ROWS).answer;
+                    match tenth {
+                        0 => assert_eq!(answer, PADDED),
+                        1 => assert!(answer != PADDED && answer != TOO_BIG),
+                        _ => assert_eq!(answer, TOO_BIG),
+                    }
                 }
             }
         }
     }
+}
+
+/// Catches a number badly written that is misnamed: every length with every last byte.
+#[test]
+fn every_length_and_last_byte_of_a_number_in_a_file() {
+    let mut seen = [0; 24];
+    for bytes in every_last_byte() {
+        seen[assert_read(&bytes, ROWS).answer as usize] += 1;
+    }
+    // A last 00 after one to nine bytes, or behind a byte that says that another follows; a tenth byte from 02 on.
+    let (padded, too_big) = (seen[PADDED as usize], seen[TOO_BIG as usize]);
+    assert_eq!((padded, too_big), (9 + 9 * 128, 254));
 }
 
 /// Catches a reader that breaks on any short data at all.

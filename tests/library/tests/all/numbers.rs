@@ -2,11 +2,11 @@
 
 use crate::draw::all_lists;
 use library::{calls, cases, rounds::rounds};
-use reference::answers::{CUT, DONE, LONG, NO_ROOM};
+use reference::answers::{CUT, DONE, NO_ROOM, PADDED, TOO_BIG};
 use reference::numbers::{encode, read};
 use reference::random::Random;
 
-/// A number and the place after it, or the fault and its place.
+/// A number and how many bytes it took, or the fault and its place.
 type Read = Result<(u64, usize), (u64, usize)>;
 
 /// The library's answer, which is the reference's. A fault stands where the number begins.
@@ -23,12 +23,12 @@ fn the_named_numbers_are_read_as_they_should() {
     for case in cases::load(
         "numbers.txt",
         &["bytes", "at", "answer"],
-        &["value", "after"],
+        &["value", "took"],
     ) {
         let at = case.number("at") as usize;
         let found = assert_read(&case.bytes("bytes"), at);
         let wanted = match case.answer("answer") {
-            DONE => Ok((case.number("value"), case.number("after") as usize)),
+            DONE => Ok((case.number("value"), case.number("took") as usize)),
             fault => Err((fault, at)),
         };
         assert_eq!(found, wanted, "{}", case.name);
@@ -52,7 +52,7 @@ fn numbers_at_every_boundary_are_read_and_written() {
         let form = encode(value);
         for before in 0..3 {
             let bytes = [&[0xff; 3][..before], &form, &[0xff]].concat();
-            let wanted = Ok((value, before + form.len()));
+            let wanted = Ok((value, form.len()));
             assert_eq!(assert_read(&bytes, before), wanted);
             for cut in before..before + form.len() {
                 assert_eq!(assert_read(&bytes[..cut], before), Err((CUT, before)));
@@ -87,16 +87,51 @@ fn a_number_is_written_only_where_all_of_it_fits() {
     }
 }
 
-/// Catches 2^64 and more taken modulo 2^64.
+/// Catches 2^64 and more taken modulo 2^64, and a tenth byte that is misnamed or judged late: all are tried.
 #[test]
-fn a_number_of_2_to_the_64_or_more_is_long() {
-    for tenth in (0..=255).filter(|tenth| *tenth != 1) {
+fn every_tenth_byte_is_padded_or_right_or_too_big() {
+    for tenth in 0..=255 {
         for group in [0x80, 0x81, 0xff] {
             let bytes = [&[group; 9][..], &[tenth, 0, 0]].concat();
-            assert_eq!(assert_read(&bytes, 0), Err((LONG, 0)));
-            assert_eq!(assert_read(&bytes[..10], 0), Err((LONG, 0)));
+            let fault = match tenth {
+                0 => Some(PADDED),
+                1 => None,
+                _ => Some(TOO_BIG),
+            };
+            for length in 10..=12 {
+                let found = assert_read(&bytes[..length], 0);
+                assert_eq!(found.err(), fault.map(|fault| (fault, 0)), "{tenth:x}");
+            }
         }
     }
+}
+
+/// Catches a needless group that is let pass, or called anything but PADDED, at any length.
+#[test]
+fn every_number_with_a_needless_group_is_padded() {
+    for value in boundary_numbers() {
+        let mut bytes = encode(value);
+        while bytes.len() < 10 {
+            *bytes.last_mut().expect("a byte") |= 0x80;
+            bytes.push(0);
+            assert_eq!(assert_read(&bytes, 0), Err((PADDED, 0)), "{value}");
+        }
+    }
+}
+
+/// Catches a count of bytes that is not that of the number's one form, or that is not 1 to 10.
+#[test]
+fn a_number_takes_the_bytes_of_its_form_wherever_it_stands() {
+    let mut lengths = std::collections::BTreeSet::new();
+    for value in boundary_numbers() {
+        let form = encode(value);
+        for before in [0, 1, 2, 9, 300] {
+            let bytes = [&vec![0x80; before][..], &form, &[0, 0x80]].concat();
+            assert_eq!(assert_read(&bytes, before), Ok((value, form.len())));
+        }
+        lengths.insert(form.len());
+    }
+    assert!(lengths.into_iter().eq(1..=10));
 }
 
 /// Catches anything wrong in forms of up to twelve bytes that have one byte repeated and then two others.
@@ -128,7 +163,7 @@ fn every_two_bytes() {
 #[test]
 fn random_forms_are_read_as_the_reference_does() {
     let mut random = Random::new(106);
-    let mut counts = [0; 3];
+    let mut counts = [0; 4];
     for _ in 0..rounds(100_000) {
         let length = random.below(13) as usize;
         let mut bytes: Vec<u8> = (0..length).map(|_| random.number() as u8).collect();
@@ -143,15 +178,16 @@ fn random_forms_are_read_as_the_reference_does() {
             *tenth = 1;
         }
         match assert_read(&bytes, 0) {
-            Ok((value, after)) => {
-                assert_eq!(encode(value), bytes[..after], "the shortest form only");
+            Ok((value, took)) => {
+                assert_eq!(encode(value), bytes[..took], "the shortest form only");
                 counts[0] += 1;
             }
             Err((CUT, _)) => counts[1] += 1,
-            Err(_) => counts[2] += 1,
+            Err((PADDED, _)) => counts[2] += 1,
+            Err(_) => counts[3] += 1,
         }
     }
-    assert!(counts.iter().all(|count| *count > 5000), "{counts:?}");
+    assert!(counts.iter().all(|count| *count > 2000), "{counts:?}");
 }
 
 /// Catches a bit that is lost on the way out.

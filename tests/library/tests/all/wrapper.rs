@@ -6,6 +6,7 @@ use library::{cases, rounds::rounds};
 use pressbadger::{Checked, Columns, Compared, Inclusion, Judged, Refusal, Refused, TextRefused};
 use reference::answers::*;
 use reference::congruence::Pair;
+use reference::damage::every_last_byte;
 use reference::evidence::Check;
 use reference::expressions::Expressing;
 use reference::file::{Reading, Writing};
@@ -494,6 +495,35 @@ fn a_refused_text_is_handed_on_without_the_text() {
     assert_eq!(parts, (30, "SYNTAX", Some(5)));
 }
 
+/// Catches a number badly written that a person is not told apart, or not told what to do about: every length with every
+/// last byte, and so every tenth byte.
+#[test]
+fn a_person_is_told_how_a_number_is_badly_written() {
+    let mut told = std::collections::BTreeMap::new();
+    for bytes in every_last_byte() {
+        let mut rows = [7; 1];
+        let wanted = reference::file::read(&bytes, 1);
+        match pressbadger::read_pattern(&bytes, &mut rows) {
+            Ok(read) => {
+                assert_eq!(wanted.answer, DONE, "{bytes:x?}");
+                assert_eq!(read.pattern.finals, wanted.pattern.finals, "{bytes:x?}");
+            }
+            Err(refused) => {
+                let found = (u64::from(refused.number()), refused.place());
+                let place = wanted.place as usize;
+                assert_eq!(found, (wanted.answer, Some(place)), "{bytes:x?}");
+                assert_eq!(rows, [7]);
+                told.insert(refused.number(), refused.to_string());
+            }
+        }
+    }
+    let padded = "PADDED (21): a number of the file is written with needless zero groups: the exporter pads, at byte 2";
+    assert_eq!(told.get(&21).map(String::as_str), Some(padded));
+    let too_big =
+        "TOO-BIG (23): a number of the file is 2^64 or more: no mask has so many bits, at byte 2";
+    assert_eq!(told.get(&23).map(String::as_str), Some(too_big));
+}
+
 /// Catches an answer with another number than the scope's.
 #[test]
 fn every_answer_has_the_scopes_number() {
@@ -555,7 +585,7 @@ fn the_limits_are_the_scopes() {
 #[test]
 fn the_wrapper_is_written_for_the_version_that_is_linked() {
     assert_eq!(pressbadger::version(), pressbadger::VERSION);
-    assert_eq!(library::host::version(), 1);
+    assert_eq!(library::host::version(), 2);
 }
 
 /// Catches a record that is laid out in another way than the exports write it.

@@ -78,7 +78,7 @@ fn a_damaged_file_is_refused_at_its_first_fault_or_is_another_file() {
         }
         *seen.entry(reading.answer).or_default() += 1;
     }
-    for answer in [DONE, BAD_SIZE, BAD_SET, CUT, LONG, TAIL] {
+    for answer in [DONE, BAD_SIZE, BAD_SET, CUT, PADDED, TAIL, TOO_BIG] {
         assert!(
             seen.get(&answer).is_some_and(|&count| count > 20),
             "{seen:?}"
@@ -91,7 +91,7 @@ fn a_damaged_file_is_refused_at_its_first_fault_or_is_another_file() {
 fn each_kind_of_damage_has_its_refusal() {
     let table = [
         (Damage::Cut, CUT),
-        (Damage::Padded, LONG),
+        (Damage::Padded, PADDED),
         (Damage::Tail, TAIL),
     ];
     let mut random = Random::new(23);

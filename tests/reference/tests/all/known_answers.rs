@@ -91,8 +91,8 @@ fn the_sizes_of_the_table_hold_for_judge_and_writer_too() {
 
 /// Catches a reader that takes needless groups, or calls them CUT.
 #[test]
-fn badly_written_n_is_long_or_cut_at_place_0() {
-    for (bytes, answer) in [(&[0x80, 0x00][..], LONG), (&[0x80][..], CUT)] {
+fn badly_written_n_is_padded_or_cut_at_place_0() {
+    for (bytes, answer) in [(&[0x80, 0x00][..], PADDED), (&[0x80][..], CUT)] {
         let reading = file::read(bytes, 2048);
         assert_eq!((reading.answer, reading.place), (answer, 0));
     }

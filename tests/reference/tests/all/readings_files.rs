@@ -7,7 +7,7 @@ use reference::numbers::{self, encode};
 use reference::pattern::{self, Pattern};
 use reference::report::{report, INPUT_LIMIT};
 
-/// A number and the place after it, or a refusal.
+/// A number and how many bytes it took, or a refusal.
 type Read = Result<(u64, usize), u64>;
 
 /// Nine bytes with bit 7 set and then the given ones.
@@ -15,34 +15,34 @@ fn after_nine(rest: &[u8]) -> Vec<u8> {
     [&[0x80; 9], rest].concat()
 }
 
-/// The scope, §9.7: catches a tenth byte that is judged late, or an eleventh that is looked at.
+/// The scope, §9.7: catches a tenth byte that is judged late or misnamed, or an eleventh that is looked at.
 #[test]
 fn the_tenth_byte_is_judged_as_soon_as_it_is_seen() {
     let table: [(&[u8], Read); 10] = [
         (&[], Err(CUT)),
-        (&[0x00], Err(LONG)),
+        (&[0x00], Err(PADDED)),
         (&[0x01], Ok((1 << 63, 10))),
         (&[0x01, 0x80], Ok((1 << 63, 10))),
-        (&[0x02], Err(LONG)),
-        (&[0x7f], Err(LONG)),
-        (&[0x80], Err(LONG)),
-        (&[0x80, 0x00], Err(LONG)),
-        (&[0x81], Err(LONG)),
-        (&[0xff], Err(LONG)),
+        (&[0x02], Err(TOO_BIG)),
+        (&[0x7f], Err(TOO_BIG)),
+        (&[0x80], Err(TOO_BIG)),
+        (&[0x80, 0x00], Err(TOO_BIG)),
+        (&[0x81], Err(TOO_BIG)),
+        (&[0xff], Err(TOO_BIG)),
     ];
     for (rest, wanted) in table {
         assert_eq!(numbers::read(&after_nine(rest), 0), wanted, "{rest:?}");
     }
 }
 
-/// The scope, §9.7, §9.8: catches 00 bytes called LONG before the number has ended.
+/// The scope, §9.7, §9.8: catches 00 bytes called PADDED before the number has ended.
 #[test]
 fn only_a_last_group_of_0_is_needless() {
     let table: [(&[u8], Read); 8] = [
         (&[0x00], Ok((0, 1))),
         (&[0x80, 0x80], Err(CUT)),
-        (&[0x80, 0x80, 0x00], Err(LONG)),
-        (&[0x81, 0x00], Err(LONG)),
+        (&[0x80, 0x80, 0x00], Err(PADDED)),
+        (&[0x81, 0x00], Err(PADDED)),
         (&[0x80, 0x01], Ok((128, 2))),
         (&[0x80, 0x80, 0x01], Ok((1 << 14, 3))),
         (&[0xac, 0x02], Ok((300, 2))),
@@ -86,7 +86,7 @@ fn every_number_is_read_back_at_any_place() {
             u64::MAX << bit,
         ] {
             let bytes = [&[0xff, 0xff][..], &encode(value), &[0xff]].concat();
-            let wanted = Ok((value, bytes.len() - 1));
+            let wanted = Ok((value, bytes.len() - 3));
             assert_eq!(numbers::read(&bytes, 2), wanted, "{value}");
         }
     }
@@ -101,7 +101,7 @@ fn fault(bytes: &[u8]) -> (u64, u64) {
 #[test]
 fn form_goes_before_range_and_the_earlier_number_wins() {
     assert_eq!(fault(&[0x41, 0x80, 0x00]), (BAD_SIZE, 0));
-    assert_eq!(fault(&[0x01, 0x01, 0x82, 0x00]), (LONG, 2));
+    assert_eq!(fault(&[0x01, 0x01, 0x82, 0x00]), (PADDED, 2));
     assert_eq!(fault(&encode(1 << 63)), (BAD_SIZE, 0));
 }
 

@@ -163,7 +163,7 @@ fn the_writer_refuses_in_its_order() {
 /// Catches a fault of a pattern file that is missed, misnamed or misplaced.
 #[test]
 fn the_reader_refuses_with_number_and_place() {
-    let table: [(&[u8], u64, u64, u64); 19] = [
+    let table: [(&[u8], u64, u64, u64); 20] = [
         (&[], 3, CUT, 0),
         (&[0], 3, BAD_SIZE, 0),
         (&[65], 3, BAD_SIZE, 0),
@@ -180,7 +180,8 @@ fn the_reader_refuses_with_number_and_place() {
         (&[3, 1, 5, 2, 1, 4, 1], 3, CUT, 7),
         (&[3, 1, 5, 2, 1, 4, 1, 4, 0], 3, TAIL, 8),
         (&[3, 1, 5, 2, 1, 4, 1, 4, 0x80], 3, TAIL, 8),
-        (&[3, 1, 5, 2, 0x81, 0, 9], 3, LONG, 4),
+        (&[3, 1, 5, 2, 0x81, 0, 9], 3, PADDED, 4),
+        (&[&[3, 1][..], &[0xff; 10]].concat(), 3, TOO_BIG, 2),
         (&[3, 1, 5, 2, 1, 4, 1, 4], 0, NO_ROOM, 2),
         (&[3, 1, 5, 2, 1, 4, 1, 4], 3, DONE, 0),
     ];
@@ -205,7 +206,7 @@ fn the_reader_refuses_with_number_and_place() {
 #[test]
 fn every_answer_number_has_its_name() {
     let numbers: Vec<u64> = NAMES.iter().map(|(number, _)| *number).collect();
-    let wanted: Vec<u64> = (0..=16).chain(20..=22).chain(30..=32).collect();
+    let wanted: Vec<u64> = (0..=16).chain(20..=23).chain(30..=32).collect();
     assert_eq!(numbers, wanted);
     let some = [
         (6, "NOT-PROVED"),
