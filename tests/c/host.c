@@ -308,8 +308,6 @@ int main(void) {
     refuses();
     takes_the_default();
     asks_one_way();
-}
-
     keeps_128();
     judges();
     checks();
