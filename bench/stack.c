@@ -1,5 +1,6 @@
 /* How much stack each export needs, on a small question and on the largest: the call is made on a painted stack of its own, and the
- * paint that is gone is counted. The largest is written as a pattern file, too, for the program. */
+ * paint that is gone is counted. It fails where a call needs more than its tables and 512 bytes. The largest question is written as a
+ * pattern file, for the program. */
 #define _XOPEN_SOURCE 700
 #include "pressbadger.h"
 
@@ -8,7 +9,7 @@
 #include <string.h>
 #include <ucontext.h>
 
-enum { STACK = 1 << 20, PAINT = 0x5A, ROWS = PB_MAX_ROWS };
+enum { STACK = 1 << 20, PAINT = 0x5A, BESIDE = 512, ROWS = PB_MAX_ROWS };
 
 static ucontext_t here, there;
 static unsigned char *stack;
@@ -106,19 +107,20 @@ int main(int count, char **arguments) {
     static const struct {
         const char *name;
         void (*which)(void);
+        size_t small, large; /* its tables, in bytes: for 64 pairs, and for 1,024 */
     } calls[] = {
-        {"`pb_compare`", compare},
-        {"`pb_compare_default`", compare_default},
-        {"`pb_compare_lists`", compare_lists},
-        {"`pb_judge`", judge},
-        {"`pb_check`", check},
-        {"`pb_check_records`", check_records},
-        {"`pb_write_pattern`", write_pattern},
-        {"`pb_read_pattern`", read_pattern},
-        {"`pb_read_pattern` into a table on the stack, which is then copied", read_into_a_table},
-        {"`pb_expressions`", expressions},
-        {"`pb_within`", within},
-        {"`pb_within_lists`", within_lists},
+        {"`pb_compare`", compare, 64 * 19, 1024 * 19},
+        {"`pb_compare_default`", compare_default, 64 * 19, 1024 * 19},
+        {"`pb_compare_lists`", compare_lists, 0, 0},
+        {"`pb_judge`", judge, 0, 0},
+        {"`pb_check`", check, 0, 0},
+        {"`pb_check_records`", check_records, 64 * 16, 1025 * 16},
+        {"`pb_write_pattern`", write_pattern, 0, 0},
+        {"`pb_read_pattern`", read_pattern, 0, 0},
+        {"`pb_read_pattern` into a table on the stack, which is then copied", read_into_a_table, ROWS * 8, ROWS * 8},
+        {"`pb_expressions`", expressions, 768 + 33 * 752, 768 + 33 * 752}, /* and a frame for each level of parentheses */
+        {"`pb_within`", within, 64 * 19, 1024 * 19},
+        {"`pb_within_lists`", within_lists, 0, 0},
     };
     enum { CALLS = sizeof calls / sizeof calls[0] };
     size_t small[CALLS], large[CALLS];
@@ -133,7 +135,10 @@ int main(int count, char **arguments) {
     make_question(10);
     for (size_t i = 0; i < CALLS; i++)
         large[i] = used(calls[i].which) - none;
-    for (size_t i = 0; i < CALLS; i++)
+    int right = write_file(arguments[1]);
+    for (size_t i = 0; i < CALLS; i++) {
         printf("| %s | %zu | %zu |\n", calls[i].name, small[i], large[i]);
-    return write_file(arguments[1]) ? 0 : 1;
+        right = right && small[i] <= calls[i].small + BESIDE && large[i] <= calls[i].large + BESIDE;
+    }
+    return right ? 0 : 1;
 }

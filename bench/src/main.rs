@@ -1,4 +1,5 @@
 //! Prints the tables of docs/FIGURES.md: each figure is a ratio or a count, measured in this one run.
+mod clock;
 mod library;
 
 use library::{ByLists, ByRecords, Counts};
@@ -7,11 +8,11 @@ use reference::random::Random;
 use reference::walk::compare;
 use std::hint::black_box;
 use std::slice::from_ref;
-use std::time::{Duration, Instant};
+use std::time::Duration;
 
 const ROOM: usize = 1024;
 const AUTOMATA: usize = 1000;
-const ROUNDS: usize = 15;
+const ROUNDS: usize = 40;
 const DENSITY: u64 = 125;
 
 /// Random automata of `states` states and two letters, from two distinct single states.
@@ -38,7 +39,7 @@ fn plain(question: &Question) -> Counts {
     (compared.answer, compared.kept, compared.examined)
 }
 
-/// The least times of a pass over the questions by each of two comparisons that take turns.
+/// The least processor times of a pass over the questions by each of two comparisons that take turns.
 fn times(
     questions: &[Question],
     rounds: usize,
@@ -47,16 +48,16 @@ fn times(
 ) -> (f64, f64) {
     let (mut least_first, mut least_second) = (Duration::MAX, Duration::MAX);
     for _ in 0..rounds {
-        let start = Instant::now();
+        let start = clock::now();
         for question in questions {
             black_box(first(black_box(question)));
         }
-        least_first = least_first.min(start.elapsed());
-        let start = Instant::now();
+        least_first = least_first.min(clock::now() - start);
+        let start = clock::now();
         for question in questions {
             black_box(second(black_box(question)));
         }
-        least_second = least_second.min(start.elapsed());
+        least_second = least_second.min(clock::now() - start);
     }
     (least_first.as_secs_f64(), least_second.as_secs_f64())
 }
@@ -120,16 +121,18 @@ fn growth_table(questions: &[Question]) {
 fn entry_table() {
     println!("| question | records / lists |");
     println!("|---|---|");
-    let tiny = questions::switches(1);
+    let tiny = vec![questions::switches(1); AUTOMATA];
     let short = random_questions(1, 64, Finals::Half);
     let drawn = random_questions(5, 64, Finals::None);
-    let (within, beyond, large) = (questions::switches(6), questions::switches(7), questions::switches(10));
-    let cases: [(&str, &[Question], usize); 6] = [
-        ("2 pairs kept", from_ref(&tiny), 2000),
+    let (within, large) = (questions::switches(6), questions::switches(10));
+    let (beyond, twice) = (questions::long_way(65), questions::switches(7));
+    let cases: [(&str, &[Question], usize); 7] = [
+        ("2 pairs kept", &tiny, ROUNDS),
         ("1000 random automata of 64 states, half of them final", &short, ROUNDS),
         ("1000 random automata of 64 states, none final", &drawn, ROUNDS),
         ("64 pairs kept", from_ref(&within), 200),
-        ("128 pairs kept", from_ref(&beyond), 200),
+        ("65 pairs kept", from_ref(&beyond), 200),
+        ("128 pairs kept", from_ref(&twice), 200),
         ("1024 pairs kept", from_ref(&large), ROUNDS),
     ];
     for (name, questions, rounds) in cases {

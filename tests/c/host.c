@@ -162,6 +162,38 @@ static void asks_one_way(void) {
     check(pb_check(3, 1, 5, A, 3, 1 | 4, 4, lefts, c.kept, rights, c.kept).answer == PB_PROVED, "and they are evidence too");
 }
 
+/* Seven switches: 128 pairs, more than the small tables of the calls over records hold. */
+static void keeps_128(void) {
+    enum { SWITCHES = 7, STATES = 2 * SWITCHES + 1, ROWS = STATES * SWITCHES, KEPT = 128 };
+    uint64_t rows[ROWS], x = 0, y = 1 << (STATES - 1);
+    for (size_t a = 0; a < SWITCHES; a++) {
+        x |= 1 << (2 * a);
+        for (size_t s = 0; s < STATES; s++)
+            rows[s * SWITCHES + a] = s < 2 * SWITCHES && s / 2 == a ? 1 << (2 * a + 1) : 1 << s;
+    }
+    pb_record records[KEPT + 1], fewer[KEPT + 1];
+    uint8_t sequence[KEPT + 1];
+    for (size_t i = 0; i <= KEPT; i++) {
+        records[i] = fewer[i] = UNTOUCHED;
+        sequence[i] = UNTOUCHED_BYTE;
+    }
+    const pb_compared same = {PB_SAME, KEPT, 1 + SWITCHES * KEPT, 0};
+    check(same_compared(pb_compare(STATES, SWITCHES, 0, rows, ROWS, x, y, KEPT, records, KEPT, sequence, KEPT), same), "seven switches");
+    check(same_record(records[KEPT], UNTOUCHED), "seven switches: a record more");
+    pb_checked p = pb_check_records(STATES, SWITCHES, 0, rows, ROWS, x, y, records, KEPT);
+    check(p.answer == PB_PROVED && p.place == 0, "their records are evidence");
+    p = pb_check_records(STATES, SWITCHES, 0, rows, ROWS, x, y, records, KEPT - 1);
+    check(p.answer == PB_NOT_PROVED, "and without the last they are not");
+    for (size_t room = 63; room <= 66; room++) {
+        pb_compared c = pb_compare(STATES, SWITCHES, 0, rows, ROWS, x, y, room, fewer, KEPT, sequence, KEPT);
+        check(c.answer == PB_FULL && c.kept == room && c.length == 0, "seven switches in a smaller room");
+        for (size_t i = 0; i <= KEPT; i++)
+            check(same_record(fewer[i], i < room ? records[i] : UNTOUCHED), "the first records, and no other");
+    }
+    for (size_t i = 0; i <= KEPT; i++)
+        check(sequence[i] == UNTOUCHED_BYTE, "SAME and FULL write no sequence");
+}
+
 static void judges(void) {
     const uint8_t read[] = {0}, worse[] = {0, 1};
     check(pb_judge(3, 1, 5, A, 3, 1, read, 0).answer == PB_ACCEPT, "the empty sequence from 1");
@@ -276,6 +308,7 @@ int main(void) {
     refuses();
     takes_the_default();
     asks_one_way();
+    keeps_128();
     judges();
     checks();
     files();

@@ -183,7 +183,9 @@ fn lists_are_judged_by_the_room_asked_for() {
         y: 1,
     };
     for room in [0, 1, 2, 64, 65, 255, 256, 257, 1023, 1024, 1025] {
-        for length in [0, 1, 2, 63, 64, 65, 254, 255, 256, 257, 1022, 1023, 1024, 1025] {
+        for length in [
+            0, 1, 2, 63, 64, 65, 254, 255, 256, 257, 1022, 1023, 1024, 1025,
+        ] {
             let wanted = match length >= room && room <= MAX_ROOM {
                 true => SAME,
                 false => BAD_ROOM,
