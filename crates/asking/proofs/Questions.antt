@@ -11,7 +11,7 @@ use Rattle.numbers.specs.Format.{ended, Reading, got, refused, fileReading, Fits
 use Rattle.numbers.proofs.Formats.{refused-got, IsFile, file-write-after-read}
 use Rattle.numbers.proofs.Parts.{FitsMany, fits-many}
 use Rattle.patternfile.specs.PatternFile.{numbersOf, startsThen, patternThen, patternFormat}
-use Rattle.patternfile.proofs.Contents.{accepted-valid}
+use Rattle.patternfile.proofs.Contents.{accepted-valid, NumbersOf, fits-numbers}
 use Rattle.patternfile.proofs.Determined.{same-rows}
 use Rattle.walk.specs.Walk.{Question, questionOf}
 use Rattle.walk.specs.Meaning.{Proper}
@@ -49,34 +49,13 @@ one-refusal input {number} {place} {number'} {place'} r s = let e : refused numb
 
 -- ---- every input asks or is refused
 
-fits-starts : (n : ℕ) (us : List ℕ) → Fits (startsThen n ended) us → (x : ℕ) × (y : ℕ) × (us ≡ x ∷ y ∷ [])
-unfolding Fits
-fits-starts n [] h = absurd h
-fits-starts n (x ∷ []) h = absurd h.2
-fits-starts n (x ∷ y ∷ []) h = (x, y, refl)
-fits-starts n (x ∷ y ∷ z ∷ us) h = absurd h.2.2
-
--- the numbers that fit are those of a question
-fits-question : (vs : List ℕ) → Fits (patternFormat rowRoom) vs
-    → (Q : Question) × (length Q.pattern.rows ≡ Q.pattern.states * Q.pattern.letters) × (vs ≡ numbersOf Q.pattern Q.left Q.right)
-unfolding patternFormat patternThen Fits
-fits-question [] h = absurd h
-fits-question (n ∷ []) h = absurd h.2
-fits-question (n ∷ k ∷ []) h = absurd h.2.2.1
-fits-question (n ∷ k ∷ f ∷ us) h =
-    let m : FitsMany (n * k) (setTest n) (startsThen n ended) us = fits-many (n * k) (setTest n) (startsThen n ended) us h.2.2.1.2 in
-    let (x, y, e) = fits-starts n (drop (n * k) us) m.rest in (
-      questionOf n k f (take (n * k) us) x y,
-      length-take-le (n * k) us m.enough,
-      ap (λ (l : List ℕ). n ∷ k ∷ f ∷ l) (sym (take-append-drop (n * k) us) ∙ ap (λ (l : List ℕ). take (n * k) us ++ l) e),
-    )
-
 pub asks-or-refuses : (input : List ℕ) → AreBytes input → ((Q : Question) × Asks input Q) ⊎ ((number : ℕ) × (place : ℕ) × Refuses input number place)
 asks-or-refuses input are = pick (fileReading (patternFormat rowRoom) input) refl
   where
     pick : (r : Reading) → fileReading (patternFormat rowRoom) input ≡ r → ((Q : Question) × Asks input Q) ⊎ ((number : ℕ) × (place : ℕ) × Refuses input number place)
     pick (got vs end) e =
         let file : IsFile (patternFormat rowRoom) vs input end = file-write-after-read (patternFormat rowRoom) input vs end are e in
-        let (Q, tabled, all) = fits-question vs file.fits in
-        inl (Q, record { tabled = tabled; read = e ∙ ap (λ (l : List ℕ). got l end) all ∙ ap (got (numbersOf Q.pattern Q.left Q.right)) file.takes-all })
+        let c : NumbersOf vs = fits-numbers rowRoom vs file.fits in
+        let Q : Question = record { pattern = c.pattern; left = c.x; right = c.y } in
+        inl (Q, record { tabled = c.tabled; read = e ∙ ap (λ (l : List ℕ). got l end) c.all ∙ ap (got (numbersOf c.pattern c.x c.y)) file.takes-all })
     pick (refused number place) e = inr (number, place, e)

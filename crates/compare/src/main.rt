@@ -1,27 +1,8 @@
 // `compare`: takes in one pattern file from standard input and prints what the report says of it in the default room.
 #![tactic(auto)]
 
-ghost use Rattle.std.specs.Prelude.{◌≤◌, length};
-
 use sets::States;
-use std::io::{Read, Write};
-
-// Fills the buffer as far as the input goes, and gives how many bytes came. A read that fails ends the input.
-fn take_in<R: Read>(input: &mut R, bytes: &mut [u8]) -> usize
-    ensures { result ≤ length bytes.new }
-{
-    let mut count = 0;
-    while count < bytes.len() {
-        let Ok(more) = input.read(&mut bytes[count..]) else {
-            return count;
-        };
-        if more == 0 {
-            return count;
-        }
-        count += more;
-    }
-    count
-}
+use std::io::Write;
 
 fn main(rt: HostRuntime) {
     // One byte more than the longest file: what comes after it changes nothing.
@@ -33,8 +14,8 @@ fn main(rt: HostRuntime) {
     let mut taken = [0u8; States::DEFAULT_ROOM];
     let mut sequence = [0u8; States::DEFAULT_ROOM];
     let mut out = [0u8; 74 + 42 * States::DEFAULT_ROOM];
-    let mut input = rt.stdin();
-    let count = take_in(&mut input, &mut bytes);
+    let mut stdin = rt.stdin();
+    let count = input::take_in(&mut stdin, &mut bytes);
     let length = report::report(
         &bytes[..count],
         States::DEFAULT_ROOM,

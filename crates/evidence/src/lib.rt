@@ -49,7 +49,7 @@ fn pairs_test(states: usize, x: u64, y: u64, lefts: &[u64], rights: &[u64]) -> V
 }
 
 // The tests of `check`, in the scope's order.
-fn check_test(
+pub fn check_test(
     states: usize,
     letters: usize,
     finals: u64,

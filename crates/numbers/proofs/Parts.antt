@@ -124,6 +124,40 @@ many-fits zero test f (w ∷ ws) us h k = absurd h
 many-fits (suc m) test f [] us h k = absurd h
 many-fits (suc m) test f (w ∷ ws) us h k = (h.0, h.1, many-fits m test f ws us h.2 k)
 
+pub many-size : (m : ℕ) (test : ℕ → Verdict) (ws : List ℕ) → Fits (many m test ended) ws → length ws ≡ m
+unfolding many Fits
+many-size zero test [] h = refl
+many-size zero test (w ∷ ws) h = absurd h
+many-size (suc m) test [] h = absurd h
+many-size (suc m) test (w ∷ ws) h = ap suc (many-size m test ws h.2)
+
+pub followed-fits : (f : Format) (more : List ℕ → Format) (us vs : List ℕ) → Fits f us → Fits (more us) vs → Fits (followed f more) (us ++ vs)
+unfolding followed Fits
+followed-fits ended more [] vs h k = k
+followed-fits ended more (u ∷ us) vs h k = absurd h
+followed-fits (item test rest) more [] vs h k = absurd h
+followed-fits (item test rest) more (u ∷ us) vs h k = (h.0, h.1, followed-fits (rest u) (λ ws. more (u ∷ ws)) us vs h.2 k)
+followed-fits (gate verdict rest) more us vs h k = (h.0, followed-fits rest more us vs h.1 k)
+
+-- numbers that fit both parts are those of the one and those of the other
+pub record FitsFollowed (f : Format) (more : List ℕ → Format) (ws : List ℕ) : Type 0 where
+  pub us : List ℕ
+  pub vs : List ℕ
+  pub all : ws ≡ us ++ vs
+  pub first : Fits f us
+  pub then : Fits (more us) vs
+
+pub fits-followed : (f : Format) (more : List ℕ → Format) (ws : List ℕ) → Fits (followed f more) ws → FitsFollowed f more ws
+unfolding followed Fits
+fits-followed ended more ws h = record { us = []; vs = ws; all = refl; first = tt; then = h }
+fits-followed (item test rest) more [] h = absurd h
+fits-followed (item test rest) more (w ∷ ws) h =
+    let r : FitsFollowed (rest w) (λ us. more (w ∷ us)) ws = fits-followed (rest w) (λ us. more (w ∷ us)) ws h.2 in
+    record { us = w ∷ r.us; vs = r.vs; all = ap (λ (l : List ℕ). w ∷ l) r.all; first = (h.0, h.1, r.first); then = r.then }
+fits-followed (gate verdict rest) more ws h =
+    let r : FitsFollowed rest more ws = fits-followed rest more ws h.1 in
+    record { us = r.us; vs = r.vs; all = r.all; first = (h.0, r.first); then = r.then }
+
 -- ---- the bytes of two parts
 
 pub encode-append : (us vs : List ℕ) → encodeAll (us ++ vs) ≡ encodeAll us ++ encodeAll vs

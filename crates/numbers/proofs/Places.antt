@@ -36,7 +36,7 @@ stops-later test rest s at v next {w} {place} f q r =
       stopped = r.stopped;
     }
 
-refused-is : {w p w' p' : ℕ} → refused w p ≡ refused w' p' → (w ≡ w') × (p ≡ p')
+pub refused-is : {w p w' p' : ℕ} → refused w p ≡ refused w' p' → (w ≡ w') × (p ≡ p')
 refused-is h = (cc, cc)
 
 before-refused : (v : ℕ) (r : Reading) {w p : ℕ} → before v r ≡ refused w p → r ≡ refused w p
@@ -66,7 +66,7 @@ stops-gate Fine rest s at w place ih h =
     let r : Stops rest s at w place = ih h in
     record { us = r.us; left = r.left; follows = through refl r.follows; bytes = r.bytes; placed = r.placed; stopped = r.stopped }
 
-stops : (f : Format) (s : List ℕ) (at w place : ℕ) → AreBytes s → reading f s at ≡ refused w place → Stops f s at w place
+pub stops : (f : Format) (s : List ℕ) (at w place : ℕ) → AreBytes s → reading f s at ≡ refused w place → Stops f s at w place
 unfolding reading
 stops ended s at w place a h = absurd (refused-got (sym h))
 stops (item test rest) s at w place a h = stops-item test rest s at w place a (λ v next q. stops (rest v) s next w place a q) (numberAt s at) refl h
@@ -107,7 +107,7 @@ after-many (suc m) test f (taken {v = v} l q h) = one-more v (after-many m test 
 
 -- ---- where all before a place is right, what stands there decides
 
-reading-behind : (s : List ℕ) {f : Format} {us : List ℕ} {g : Format} → After f us g → (at : ℕ) (t : List ℕ) → drop at s ≡ encodeAll us ++ t
+pub reading-behind : (s : List ℕ) {f : Format} {us : List ℕ} {g : Format} → After f us g → (at : ℕ) (t : List ℕ) → drop at s ≡ encodeAll us ++ t
     → reading f s at ≡ beforeAll us (reading g s (at + length (encodeAll us)))
 unfolding reading encodeAll
 reading-behind s {f} here at t e = none-before (reading f s at) ∙ ap (λ (n : ℕ). beforeAll [] (reading f s n)) (omega arith)

@@ -1,18 +1,22 @@
 -- How far reading looks: a format of m numbers reads the same where all but 10 * m bytes from its place on are left out.
-use Prim.Native.Nat.{ℕ, zero, suc, ◌+◌, ◌*◌, ◌≤◌}
+use Prim.Native.Nat.{ℕ, zero, suc, ◌+◌, ◌*◌, ◌<◌, ◌≤◌}
 use mathlib.Core.List.{List}
-use mathlib.Core.Path.{◌≡◌, refl, ap, ◌∙◌}
+use mathlib.Core.Path.{◌≡◌, refl, sym, ap, ◌∙◌}
+use native.Mathlib.Decide.{dec_le}
 use native.Mathlib.Omega.{arith}
-use lib.ListN.{take}
+use lib.ListN.{length, take}
+use lib.Seq.{take_all, length-take-le}
+use borrow.Author.Tests.{lt-ltb}
 use Rattle.verdict.specs.declared.Verdict.{Verdict}
 use Rattle.verdict.specs.declared.Verdict.TheVariants.{Fine}
 use Rattle.numbers.specs.declared.Number.{Number}
 use Rattle.numbers.specs.declared.Number.TheVariants.{Value, Fault}
 use Rattle.numbers.specs.Numbers.{numberAt, AreBytes}
-use Rattle.numbers.specs.Format.{Format, ended, item, gate, many, heldTo, orRefused, unlessRefused, before, reading}
+use Rattle.numbers.specs.Format.{Format, ended, item, gate, many, Reading, got, refused, heldTo, orRefused, unlessRefused, before, reading, noTail, fileReading, encodeAll, Fits}
 use Rattle.numbers.proofs.TenBytes.{encode-ten, ten-decide}
 use Rattle.numbers.proofs.RoundTrip.{Found, write-after-read}
-use Rattle.numbers.proofs.Formats.{Held, held}
+use Rattle.numbers.proofs.Formats.{Held, held, ReadAs, write-after-reading}
+use Rattle.numbers.proofs.Parts.{thenReading, beforeAll, goingOn, followed, reading-followed}
 
 -- at most m numbers
 unfoldable pub Short : ℕ → Format → Type 0
@@ -56,3 +60,36 @@ reach (item test rest) (suc m) s at c a h k =
     item-reach test rest s at c (omega arith)
     (λ v next q. reach (rest v) m s next c a (h v q.range) (let f : Found s at v next = write-after-read s at v next a q.form in omega (arith, f.after, encode-ten v)))
 reach (gate verdict rest) m s at c a h k = ap (unlessRefused verdict at) (reach rest m s at c a h k)
+
+-- what follows a part is reached where the part is
+pub followed-reach : (f : Format) (more : List ℕ → Format) (s : List ℕ) (c : ℕ) → reading f (take c s) 0 ≡ reading f s 0
+    → ((us : List ℕ) (end : ℕ) → reading f s 0 ≡ got us end → reading (more us) (take c s) end ≡ reading (more us) s end)
+    → reading (followed f more) (take c s) 0 ≡ reading (followed f more) s 0
+followed-reach f more s c e h =
+    reading-followed f more (take c s) 0
+    ∙ ap (λ (r : Reading). thenReading r (goingOn more (take c s))) e
+    ∙ go (reading f s 0) refl
+    ∙ sym (reading-followed f more s 0)
+  where
+    go : (r : Reading) → reading f s 0 ≡ r → thenReading r (goingOn more (take c s)) ≡ thenReading r (goingOn more s)
+    go (refused w p) q = refl
+    go (got us end) q = ap (beforeAll us) (h us end q)
+
+-- where every file is shorter than c bytes and reading reaches no further, what stands from there on does not matter
+pub cap-reach : (f : Format) (s : List ℕ) (c : ℕ) → AreBytes s → reading f (take c s) 0 ≡ reading f s 0 → ((vs : List ℕ) → Fits f vs → length (encodeAll vs) < c)
+    → fileReading f (take c s) ≡ fileReading f s
+unfolding fileReading
+cap-reach f s c are same short =
+    elim (dec_le (length s) c) [
+      | yes l ↦ ap (λ (t : List ℕ). noTail t (reading f t 0)) (take_all c s l)
+      | no l ↦ ap (noTail (take c s)) same ∙ ends (omega arith) (reading f s 0) refl
+    ]
+  where
+    ends : c < length s → (r : Reading) → reading f s 0 ≡ r → noTail (take c s) r ≡ noTail s r
+    ends l (refused w p) e = refl
+    ends l (got vs next) e =
+        let r : ReadAs f vs s 0 next = write-after-reading f s 0 vs next are e in
+        let i : length (take c s) ≡ c = length-take-le c s (omega arith) in
+        let a : next < length (take c s) = omega (arith, r.after, short vs r.fits) in
+        let b : next < length s = omega arith in
+        rw (lt-ltb next (length (take c s)) a, lt-ltb next (length s) b)

@@ -1,23 +1,23 @@
 -- What the numbers of a file are: those of a valid pattern and of two sets of its states, and no others; also where more follows them.
 use Prim.Native.Nat.{ℕ, zero, suc, ◌+◌, ◌*◌, ◌^◌, ◌<◌, ◌≤◌}
 use mathlib.Core.List.{List, [], ◌∷◌, ◌++◌, append_assoc}
-use mathlib.Core.Path.{◌≡◌, ap, ◌∙◌, subst, fun_ext}
+use mathlib.Core.Path.{◌≡◌, refl, sym, ap, ◌∙◌, subst, fun_ext}
 use native.Mathlib.Nat.{lt_of_lt_of_le}
 use native.Mathlib.Omega.{arith}
-use lib.ListN.{length, drop, get_or}
+use lib.ListN.{length, take, drop, get_or, take-append-drop}
 use lib.Pow.{pow_mono}
-use lib.Seq.{take_at, drop_at, drop-append_seam}
+use lib.Seq.{take_at, drop_at, drop-append_seam, length-take-le}
 use Rattle.verdict.specs.declared.Verdict.{Verdict}
 use Rattle.verdict.specs.declared.Verdict.TheVariants.{Fine}
 use Rattle.sets.specs.Sets.{Good}
-use Rattle.pattern.specs.Pattern.{Pattern, Valid}
+use Rattle.pattern.specs.Pattern.{Pattern, Valid, patternOf}
 use Rattle.pattern.specs.Tests.{sizeTest, setTest, spaceTest}
 use Rattle.pattern.proofs.Validity.{size-fine, sized-fine, set-fine, space-fine}
 use Rattle.numbers.specs.Numbers.{encode, AreBytes}
 use Rattle.numbers.specs.Format.{Format, ended, item, gate, many, got, refused, reading, encodeAll, Fits}
 use Rattle.numbers.proofs.Groups.{one-byte}
 use Rattle.numbers.proofs.Formats.{ReadAs, reading-after-write, write-after-reading, file-got, file-write-after-read}
-use Rattle.numbers.proofs.Parts.{FitsMany, fits-many, many-fits, encode-append, followed, many-followed}
+use Rattle.numbers.proofs.Parts.{FitsMany, fits-many, many-fits, followed-fits, encode-append, followed, many-followed}
 use Rattle.numbers.proofs.Steps.{Reached, reached-part, stopped-part}
 use Rattle.patternfile.specs.PatternFile.{numbersOf, fileBytes, startsThen, setsThen, patternThen, patternFormat}
 use Rattle.patternfile.specs.Reader.{FileOf}
@@ -99,6 +99,37 @@ module _ (room : ℕ) (P : Pattern) (x y : ℕ) where
         many-fits (n * k) (setTest n) (startsThen n ended) P.rows (x ∷ y ∷ []) rows (small x gx, fine x gx, (small y gy, fine y gy, tt)),
       )
 
+-- numbers that fit are those of a pattern and of two sets
+pub record NumbersOf (us : List ℕ) : Type 0 where
+  pub pattern : Pattern
+  pub x : ℕ
+  pub y : ℕ
+  pub tabled : length pattern.rows ≡ pattern.states * pattern.letters
+  pub all : us ≡ numbersOf pattern x y
+
+fits-starts : (n : ℕ) (us : List ℕ) → Fits (startsThen n ended) us → (x : ℕ) × (y : ℕ) × (us ≡ x ∷ y ∷ [])
+unfolding Fits
+fits-starts n [] h = absurd h
+fits-starts n (x ∷ []) h = absurd h.2
+fits-starts n (x ∷ y ∷ []) h = (x, y, refl)
+fits-starts n (x ∷ y ∷ z ∷ us) h = absurd h.2.2
+
+pub fits-numbers : (room : ℕ) (us : List ℕ) → Fits (patternFormat room) us → NumbersOf us
+unfolding patternFormat patternThen Fits
+fits-numbers room [] h = absurd h
+fits-numbers room (n ∷ []) h = absurd h.2
+fits-numbers room (n ∷ k ∷ []) h = absurd h.2.2.1
+fits-numbers room (n ∷ k ∷ f ∷ us) h =
+    let m : FitsMany (n * k) (setTest n) (startsThen n ended) us = fits-many (n * k) (setTest n) (startsThen n ended) us h.2.2.1.2 in
+    let (x, y, e) = fits-starts n (drop (n * k) us) m.rest in
+    record {
+      pattern = patternOf n k f (take (n * k) us);
+      x = x;
+      y = y;
+      tabled = length-take-le (n * k) us m.enough;
+      all = ap (λ (l : List ℕ). n ∷ k ∷ f ∷ l) (sym (take-append-drop (n * k) us) ∙ ap (λ (l : List ℕ). take (n * k) us ++ l) e);
+    }
+
 -- ---- the pattern's numbers at the start of some bytes
 
 module _ {room : ℕ} {s : List ℕ} {P : Pattern} {x y end : ℕ} (are : AreBytes s) (f : PartOf room s P x y end) where
@@ -159,10 +190,10 @@ module _ {room : ℕ} {s : List ℕ} {P : Pattern} {x y : ℕ} (are : AreBytes s
 
 -- ---- a file that goes on behind the pattern's numbers
 
-first : List ℕ → ℕ
+pub first : List ℕ → ℕ
 first us = get_or us 0 0
 
-pattern-followed : (room : ℕ) (more : ℕ → Format) → patternThen room more ≡ followed (patternFormat room) (λ us. more (first us))
+pub pattern-followed : (room : ℕ) (more : ℕ → Format) → patternThen room more ≡ followed (patternFormat room) (λ us. more (first us))
 unfolding patternFormat patternThen followed first
 pattern-followed room more =
     ap (item (sizeTest 64)) (fun_ext (λ n. ap (item (sizeTest 32)) (fun_ext (λ k. ap (λ (f : Format). gate (spaceTest room (n * k)) (item (setTest n) (λ finals. f)))
@@ -177,3 +208,34 @@ module _ (room : ℕ) (more : ℕ → Format) (s : List ℕ) where
   -- what is refused of them is refused of the whole
   pub part-stopped : {w place : ℕ} → reading (patternFormat room) s 0 ≡ refused w place → reading (patternThen room more) s 0 ≡ refused w place
   part-stopped q = rw (pattern-followed room more) (stopped-part (patternFormat room) (λ us. more (first us)) s q)
+
+-- numbers that fit the whole fit by their parts
+pub record FitsPart (room : ℕ) (P : Pattern) (x y : ℕ) (g : Format) (us : List ℕ) : Type 0 where
+  pub part : Fits (patternFormat room) (numbersOf P x y)
+  pub rest : Fits g us
+
+module _ (room : ℕ) (more : ℕ → Format) (P : Pattern) (x y : ℕ) (us : List ℕ) where
+  pub fits-part : length P.rows ≡ P.states * P.letters → Fits (patternThen room more) (numbersOf P x y ++ us) → FitsPart room P x y (more P.states) us
+  unfolding patternFormat patternThen Fits
+  fits-part t h =
+      let n = P.states in
+      let count = P.states * P.letters in
+      let all = (P.rows ++ (x ∷ y ∷ [])) ++ us in
+      let m : FitsMany count (setTest n) (startsThen n (more n)) all = fits-many count (setTest n) (startsThen n (more n)) all h.2.2.1.2 in
+      let parts : all ≡ P.rows ++ (x ∷ y ∷ us) = append_assoc P.rows (x ∷ y ∷ []) us in
+      let rows : Fits (many count (setTest n) ended) P.rows =
+      subst (λ (l : List ℕ). Fits (many count (setTest n) ended) l) (ap (take count) parts ∙ take_at P.rows (x ∷ y ∷ us) count t) m.first in
+      let starts : Fits (startsThen n (more n)) (x ∷ y ∷ us) =
+      subst (λ (l : List ℕ). Fits (startsThen n (more n)) l) (ap (drop count) parts ∙ drop_at P.rows (x ∷ y ∷ us) count t) m.rest in
+      record {
+        part = (
+          h.0,
+          h.1,
+          (h.2.0, h.2.1, (h.2.2.0, (h.2.2.1.0, h.2.2.1.1, many-fits count (setTest n) (startsThen n ended) P.rows (x ∷ y ∷ []) rows (starts.0, starts.1, (starts.2.0, starts.2.1, tt))))),
+        );
+        rest = starts.2.2;
+      }
+
+  pub part-fits : Fits (patternFormat room) (numbersOf P x y) → Fits (more P.states) us → Fits (patternThen room more) (numbersOf P x y ++ us)
+  unfolding first
+  part-fits h k = rw (pattern-followed room more) (followed-fits (patternFormat room) (λ vs. more (first vs)) (numbersOf P x y) us h k)

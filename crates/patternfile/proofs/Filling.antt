@@ -27,12 +27,12 @@ use Rattle.patternfile.proofs.Contents.{part-valid, rows-stand}
 -- ---- reading that went well, number by number
 
 -- its first number is what stands there
-record First (rest : ℕ → Format) (s us : List ℕ) (next v to : ℕ) : Type 0 where
-  ws : List ℕ
-  are : us ≡ v ∷ ws
-  read : reading (rest v) s to ≡ got ws next
+pub record First (rest : ℕ → Format) (s us : List ℕ) (next v to : ℕ) : Type 0 where
+  pub ws : List ℕ
+  pub are : us ≡ v ∷ ws
+  pub read : reading (rest v) s to ≡ got ws next
 
-item-first : (test : ℕ → Verdict) (rest : ℕ → Format) (s : List ℕ) (at : ℕ) (us : List ℕ) (next v to : ℕ) → numberAt s at ≡ Value v to → reading (item test rest) s at ≡ got us next
+pub item-first : (test : ℕ → Verdict) (rest : ℕ → Format) (s : List ℕ) (at : ℕ) (us : List ℕ) (next v to : ℕ) → numberAt s at ≡ Value v to → reading (item test rest) s at ≡ got us next
     → First rest s us next v to
 unfolding reading
 item-first test rest s at us next v to e h =
@@ -46,7 +46,7 @@ item-first test rest s at us next v to e h =
     judged (Against w) h = absurd (refused-got h)
     judged Fine h = go (reading (rest v) s to) refl h
 
-item-fault : (test : ℕ → Verdict) (rest : ℕ → Format) (s : List ℕ) (at : ℕ) (us : List ℕ) (next : ℕ) {w p : ℕ} → numberAt s at ≡ Fault w p → reading (item test rest) s at ≡ got us next → ⊥
+pub item-fault : (test : ℕ → Verdict) (rest : ℕ → Format) (s : List ℕ) (at : ℕ) (us : List ℕ) (next : ℕ) {w p : ℕ} → numberAt s at ≡ Fault w p → reading (item test rest) s at ≡ got us next → ⊥
 unfolding reading
 item-fault test rest s at us next e h = refused-got (sym (ap (λ (n : Number). orRefused (heldTo test at n) (λ v next. before v (reading (rest v) s next))) e) ∙ h)
 

@@ -28,11 +28,11 @@ abbrev pub numbersIn : Reading → List ℕ
 numbersIn (got vs next) = vs
 numbersIn (refused w p) = []
 
-passed-got : (count : ℕ) (r : Reading) {x : Number} {m next : ℕ} → x ≡ passed count r → x ≡ Value m next → r ≡ got (numbersIn r) next
+pub passed-got : (count : ℕ) (r : Reading) {x : Number} {m next : ℕ} → x ≡ passed count r → x ≡ Value m next → r ≡ got (numbersIn r) next
 passed-got count (got vs n) {m} {next} e q = let h : Value count n ≡ Value m next = sym e ∙ q in let y : n ≡ next = cc in ap (got vs) y
 passed-got count (refused w p) e q = absurd (fault-value (sym e ∙ q))
 
-passed-refused : (count : ℕ) (r : Reading) {x : Number} {w p : ℕ} → x ≡ passed count r → x ≡ Fault w p → r ≡ refused w p
+pub passed-refused : (count : ℕ) (r : Reading) {x : Number} {w p : ℕ} → x ≡ passed count r → x ≡ Fault w p → r ≡ refused w p
 passed-refused count (refused v o) {w} {p} e q = let h : Fault v o ≡ Fault w p = sym e ∙ q in let a : v ≡ w = cc in let b : o ≡ p = cc in cc
 passed-refused count (got vs n) e q = absurd (fault-value (sym q ∙ e))
 

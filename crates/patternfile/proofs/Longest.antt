@@ -21,7 +21,7 @@ use Rattle.numbers.proofs.TenBytes.{encode-ten}
 use Rattle.numbers.proofs.ListLoops.{all-ten}
 use Rattle.numbers.proofs.Formats.{Held, ReadAs, write-after-reading, file-write-after-read}
 use Rattle.numbers.proofs.Parts.{FitsMany, fits-many, encode-append}
-use Rattle.numbers.proofs.Reach.{Short, short-more, short-many, item-reach, reach}
+use Rattle.numbers.proofs.Reach.{Short, short-more, short-many, item-reach, reach, cap-reach}
 use Rattle.patternfile.specs.PatternFile.{numbersOf, fileBytes, startsThen, setsThen, afterLetters, patternThen, patternFormat}
 use Rattle.patternfile.specs.Reader.{FileOf}
 use Rattle.patternfile.proofs.Contents.{contents-fit}
@@ -59,7 +59,7 @@ at-most n k f us p q h =
       length-append (encode n) (encode k ++ (encode f ++ encodeAll us)),
     )
 
-fits-short : (room : ℕ) (vs : List ℕ) → Fits (patternFormat room) vs → length (encodeAll vs) ≤ 20512
+pub fits-short : (room : ℕ) (vs : List ℕ) → Fits (patternFormat room) vs → length (encodeAll vs) ≤ 20512
 unfolding patternFormat patternThen Fits
 fits-short room [] h = absurd h
 fits-short room (n ∷ []) h = absurd h.2
@@ -81,20 +81,22 @@ no-longer {room} {s} {P} {x} {y} are f =
 abbrev pub allStates : ℕ
 allStates = 2 ^ 64 - 1
 
-ten-each : (j : ℕ) → length (encodeAll (replicate j allStates)) ≡ 10 * j
+pub ten-each : (j : ℕ) → length (encodeAll (replicate j allStates)) ≡ 10 * j
 unfolding encodeAll encode encodeIn
 ten-each zero = refl
 ten-each (suc j) = omega (arith, ten-each j, length-append (encode allStates) (encodeAll (replicate j allStates)))
 
 pub record AsLong (room : ℕ) (P : Pattern) (x y : ℕ) : Type 0 where
   pub file : FileOf room (fileBytes P x y) P x y
+  pub valid : Valid P
   pub bytes : length (fileBytes P x y) ≡ 20512
 
-as-long : (j : ℕ) → j ≡ 64 * 32 → AsLong j (patternOf 64 32 allStates (replicate j allStates)) allStates allStates
+pub as-long : (j : ℕ) → j ≡ 64 * 32 → AsLong j (patternOf 64 32 allStates (replicate j allStates)) allStates allStates
 unfolding fileBytes encodeAll encode encodeIn
 as-long j e =
     record {
       file = file-of j (patternOf 64 32 allStates (replicate j allStates)) allStates allStates valid good good (omega arith);
+      valid = valid;
       bytes = omega (arith, ten-each j, ap length (encode-append (replicate j allStates) (allStates ∷ allStates ∷ [])), length-append (encodeAll (replicate j allStates)) (encodeAll (allStates ∷ allStates ∷ [])));
     }
   where
@@ -113,7 +115,7 @@ as-long j e =
 pub one-as-long : AsLong 2048 (patternOf 64 32 allStates (replicate 2048 allStates)) allStates allStates
 one-as-long = as-long 2048 refl
 
--- ---- what stands from byte 20,513 on does not matter
+-- ---- what stands behind the longest file does not matter
 
 one-byte-on : (most : ℕ) (s : List ℕ) (at v next : ℕ) → most < 128 → AreBytes s → Held (sizeTest most) at (numberAt s at) v next → next ≡ at + 1
 one-byte-on most s at v next m are h =
@@ -128,37 +130,24 @@ sets-short n k a b =
     let two : Short 2 (startsThen n ended) = λ x q y r. tt in
     λ f q. short-more (n * k + 2) 2050 (many (n * k) (setTest n) (startsThen n ended)) (omega arith) (short-many (n * k) 2 (setTest n) (startsThen n ended) two)
 
-module _ (room : ℕ) (s : List ℕ) (are : AreBytes s) where
-  sets-reach : (n k at : ℕ) → at ≡ 2 → n ≤ 64 → k ≤ 32 → reading (afterLetters room n k ended) (take 20513 s) at ≡ reading (afterLetters room n k ended) s at
+module _ (room : ℕ) (s : List ℕ) (are : AreBytes s) (c : ℕ) (longest : 20512 ≤ c) where
+  sets-reach : (n k at : ℕ) → at ≡ 2 → n ≤ 64 → k ≤ 32 → reading (afterLetters room n k ended) (take c s) at ≡ reading (afterLetters room n k ended) s at
   unfolding reading
   sets-reach n k at e p q =
       ap (unlessRefused (spaceTest room (n * k)) at)
-      (reach (setsThen n k ended) 2051 s at 20513 are (sets-short n k p q) (omega arith))
+      (reach (setsThen n k ended) 2051 s at c are (sets-short n k p q) (omega arith))
 
-  letters-reach : (n at : ℕ) → at ≡ 1 → n ≤ 64 → reading (item (sizeTest 32) (λ k. afterLetters room n k ended)) (take 20513 s) at ≡ reading (item (sizeTest 32) (λ k. afterLetters room n k ended)) s at
+  letters-reach : (n at : ℕ) → at ≡ 1 → n ≤ 64 → reading (item (sizeTest 32) (λ k. afterLetters room n k ended)) (take c s) at ≡ reading (item (sizeTest 32) (λ k. afterLetters room n k ended)) s at
   letters-reach n at e p =
-      item-reach (sizeTest 32) (λ k. afterLetters room n k ended) s at 20513 (omega arith)
+      item-reach (sizeTest 32) (λ k. afterLetters room n k ended) s at c (omega arith)
       (λ k next h. sets-reach n k next (omega (arith, one-byte-on 32 s at k next (omega arith) are h)) p ((size-fine 32 k).0 h.range).1)
 
-  pattern-reach : reading (patternFormat room) (take 20513 s) 0 ≡ reading (patternFormat room) s 0
+  pub pattern-reach : reading (patternFormat room) (take c s) 0 ≡ reading (patternFormat room) s 0
   unfolding patternFormat patternThen
   pattern-reach =
-      item-reach (sizeTest 64) (λ n. item (sizeTest 32) (λ k. afterLetters room n k ended)) s 0 20513 (omega arith)
+      item-reach (sizeTest 64) (λ n. item (sizeTest 32) (λ k. afterLetters room n k ended)) s 0 c (omega arith)
       (λ n next h. letters-reach n next (omega (arith, one-byte-on 64 s 0 n next (omega arith) are h)) ((size-fine 64 n).0 h.range).1)
 
-  pub cap-changes-nothing : fileReading (patternFormat room) (take 20513 s) ≡ fileReading (patternFormat room) s
-  unfolding fileReading
-  cap-changes-nothing =
-      elim (dec_le (length s) 20513) [
-        | yes l ↦ ap (λ (t : List ℕ). noTail t (reading (patternFormat room) t 0)) (take_all 20513 s l)
-        | no l ↦ ap (noTail (take 20513 s)) pattern-reach ∙ ends (omega arith) (reading (patternFormat room) s 0) refl
-      ]
-    where
-      ends : 20513 < length s → (r : Reading) → reading (patternFormat room) s 0 ≡ r → noTail (take 20513 s) r ≡ noTail s r
-      ends l (refused w p) e = refl
-      ends l (got vs next) e =
-          let r : ReadAs (patternFormat room) vs s 0 next = write-after-reading (patternFormat room) s 0 vs next are e in
-          let i : length (take 20513 s) ≡ 20513 = length-take-le 20513 s (omega arith) in
-          let a : next < length (take 20513 s) = omega (arith, r.after, fits-short room vs r.fits) in
-          let b : next < length s = omega arith in
-          rw (lt-ltb next (length (take 20513 s)) a, lt-ltb next (length s) b)
+pub cap-changes-nothing : (room : ℕ) (s : List ℕ) → AreBytes s → fileReading (patternFormat room) (take 20513 s) ≡ fileReading (patternFormat room) s
+cap-changes-nothing room s are =
+    cap-reach (patternFormat room) s 20513 are (pattern-reach room s are 20513 (omega arith)) (λ vs f. omega (arith, fits-short room vs f))

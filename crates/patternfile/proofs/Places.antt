@@ -33,7 +33,7 @@ use Rattle.patternfile.specs.Refusals.{RefusedAt, bad-states, bad-letters, no-ro
 
 -- ---- what each test refuses
 
-size-against : (most v : ℕ) {w : ℕ} → sizeTest most v ≡ Against w → (w ≡ 10) × ((v < 1) ⊎ (most < v))
+pub size-against : (most v : ℕ) {w : ℕ} → sizeTest most v ≡ Against w → (w ≡ 10) × ((v < 1) ⊎ (most < v))
 unfolding sizeTest
 size-against most v h = ((need-against _ 10 h).1, outside (dec_le 1 v) (dec_le v most))
   where
@@ -42,11 +42,11 @@ size-against most v h = ((need-against _ 10 h).1, outside (dec_le 1 v) (dec_le v
     outside (yes p) (no q) = inr (omega arith)
     outside (yes p) (yes q) = apart ((size-fine most v).1 (p, q)) h
 
-set-against : (n v : ℕ) {w : ℕ} → setTest n v ≡ Against w → (w ≡ 12) × (Good n v → ⊥)
+pub set-against : (n v : ℕ) {w : ℕ} → setTest n v ≡ Against w → (w ≡ 12) × (Good n v → ⊥)
 unfolding setTest
 set-against n v h = ((need-against _ 12 h).1, λ g. apart ((set-fine n v).1 g) h)
 
-space-against : (room count : ℕ) {w : ℕ} → spaceTest room count ≡ Against w → (w ≡ 14) × (room < count)
+pub space-against : (room count : ℕ) {w : ℕ} → spaceTest room count ≡ Against w → (w ≡ 14) × (room < count)
 unfolding spaceTest
 space-against room count h = let (i, j) = need-against (leb count room) 14 h in (j, leb-false count room i)
 
@@ -169,11 +169,14 @@ in-states {s = s} {us = us} {place = place} (taken {v = n} {us = vs} l q h) st e
     in-letters q h refl (record { states = n-read s n q vs (drop place s) b; whole = taken l q h; stopped = st; placed = e; bytes = b })
 
 -- THE PLACE OF EACH REFUSAL is what the scope says; the numbers before it are right, by the law `first-fault`
-pub refusal-place : {s old new : List ℕ} {w place : ℕ} → AreBytes s → Reads s old (Refused w place) new → RefusedAt (length old) s w place
+pub refused-there : {room : ℕ} {s : List ℕ} {w place : ℕ} → AreBytes s → fileReading (patternFormat room) s ≡ refused w place → RefusedAt room s w place
 unfolding patternFormat patternThen
-refusal-place {s} {old} {w = w} {place = place} are r =
-    let f : Stops (patternFormat (length old)) s 0 w place = (first-fault (patternFormat (length old)) s w place are).0 r.fault in
+refused-there {room} {s} {w} {place} are q =
+    let f : Stops (patternFormat room) s 0 w place = (first-fault (patternFormat room) s w place are).0 q in
     in-states f.follows f.stopped (f.placed ∙ zero-add _) f.bytes
+
+pub refusal-place : {s old new : List ℕ} {w place : ℕ} → AreBytes s → Reads s old (Refused w place) new → RefusedAt (length old) s w place
+refusal-place are r = refused-there are r.fault
 
 -- by two of the numbers a host knows how the number there is badly written
 pub padded-there : {room : ℕ} {s : List ℕ} {w place : ℕ} → RefusedAt room s w place → w ≡ 21 → Padded 0 (drop place s)

@@ -1,5 +1,5 @@
 -- The bytes of a file by their three parts, put one after the other.
-use Prim.Native.Nat.{ℕ, ◌+◌, ◌≤◌}
+use Prim.Native.Nat.{ℕ, ◌+◌, ◌*◌, ◌≤◌}
 use mathlib.Core.List.{List, [], ◌∷◌, ◌++◌}
 use mathlib.Core.Path.{◌≡◌, refl, ap, ◌∙◌}
 use native.Mathlib.Omega.{arith}
@@ -8,6 +8,7 @@ use Rattle.lent.specs.Lent.{Put}
 use Rattle.lent.proofs.Putting.{put-length, put-then}
 use Rattle.pattern.specs.Pattern.{Pattern}
 use Rattle.numbers.specs.Format.{encodeAll}
+use Rattle.numbers.proofs.ListLoops.{all-ten}
 use Rattle.numbers.proofs.Parts.{encode-append}
 use Rattle.patternfile.specs.PatternFile.{fileBytes}
 
@@ -24,6 +25,10 @@ module _ (P : Pattern) (x y : ℕ) where
 
   pub parts-size : length (fileBytes P x y) ≡ length (encodeAll head) + length (encodeAll P.rows) + length (encodeAll starts)
   parts-size = omega (arith, ap length parts, length-append (encodeAll head) (encodeAll P.rows ++ encodeAll starts), length-append (encodeAll P.rows) (encodeAll starts))
+
+  -- ten bytes for each number at most
+  pub part-ten : length (fileBytes P x y) ≤ 10 * length P.rows + 50
+  part-ten = omega (arith, parts-size, all-ten P.rows, all-ten head, all-ten starts)
 
   -- the head as the code has it: n and k as 64-bit numbers
   module _ {n k : ℕ} (en : n ≡ P.states) (ek : k ≡ P.letters) where

@@ -91,7 +91,7 @@ fn read_set(bytes: &[u8], at: usize, states: usize) -> Number
 }
 
 // Judges so many sets from a place on.
-fn pass_sets(bytes: &[u8], at: usize, states: usize, count: usize) -> Number
+pub fn pass_sets(bytes: &[u8], at: usize, states: usize, count: usize) -> Number
     ensures { result ≡ passed count (reading (many count (setTest states) ended) bytes.now at) }
 {
     let mut left = count;

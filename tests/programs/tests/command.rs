@@ -42,7 +42,7 @@ impl Repository {
         repository.has("crates/walk/src/lib.rt", "pub fn walk() {}\n");
         // A copy by another process: this one must not have an executable open for writing.
         let copied = Command::new("cp")
-            .args([here("../../bin/compare"), here("../../bin/build")])
+            .args(["compare", "build", "program.sh"].map(|name| here("../../bin").join(name)))
             .arg(repository.root.join("bin"))
             .status();
         assert!(copied.expect("cp runs").success());

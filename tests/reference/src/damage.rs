@@ -1,5 +1,6 @@
-//! Damaged pattern files, each with one kind of fault put in.
+//! Damaged files, of patterns and of evidence, each with one kind of fault put in.
 
+use crate::evidence_file;
 use crate::file::values;
 use crate::numbers::{encode, FOLLOWS, MAX_BYTES};
 use crate::pattern::{all_states, MAX_LETTERS, MAX_STATES};
@@ -37,15 +38,50 @@ pub const DAMAGES: [Damage; 6] = [
 pub fn damaged(random: &mut Random, question: &Question, damage: Damage) -> Vec<u8> {
     let numbers = values(&question.pattern, question.x, question.y);
     let at = random.below(numbers.len() as u64) as usize;
+    done(random, question, &numbers, at, damage)
+}
+
+/// The evidence file of the question and some pairs, with one damage done to it: as often as not to
+/// a number behind the pattern's, and then as often as not to the count.
+pub fn damaged_evidence(
+    random: &mut Random,
+    question: &Question,
+    lefts: &[u64],
+    rights: &[u64],
+    damage: Damage,
+) -> Vec<u8> {
+    let numbers = evidence_file::values(question, lefts, rights);
+    let count = numbers.len() - 1 - 2 * lefts.len();
+    let at = match random.below(4) {
+        0 => count,
+        1 => random.between(count as u64, numbers.len() as u64 - 1) as usize,
+        _ => random.below(numbers.len() as u64) as usize,
+    };
+    if damage == Damage::OneOff && at == count {
+        let pairs = lefts.len() as u64;
+        let choices = [0, pairs + 1, pairs.saturating_sub(1), 1024, 1025, u64::MAX];
+        let value = choices[random.below(choices.len() as u64) as usize];
+        return with_number(&numbers, at, &encode(value));
+    }
+    done(random, question, &numbers, at, damage)
+}
+
+fn done(
+    random: &mut Random,
+    question: &Question,
+    numbers: &[u64],
+    at: usize,
+    damage: Damage,
+) -> Vec<u8> {
     match damage {
-        Damage::ByteChange => byte_change(random, file(&numbers)),
-        Damage::Cut => cut(random, file(&numbers)),
-        Damage::Padded => with_number(&numbers, at, &padded(random, numbers[at])),
-        Damage::TenBytes => with_number(&numbers, at, &ten_bytes(random)),
-        Damage::Tail => tail(random, file(&numbers)),
+        Damage::ByteChange => byte_change(random, file(numbers)),
+        Damage::Cut => cut(random, file(numbers)),
+        Damage::Padded => with_number(numbers, at, &padded(random, numbers[at])),
+        Damage::TenBytes => with_number(numbers, at, &ten_bytes(random)),
+        Damage::Tail => tail(random, file(numbers)),
         Damage::OneOff => {
-            let value = one_off(random, question, &numbers, at);
-            with_number(&numbers, at, &encode(value))
+            let value = one_off(random, question, numbers, at);
+            with_number(numbers, at, &encode(value))
         }
     }
 }

@@ -38,7 +38,7 @@ pub fn check(pattern: &Pattern, x: u64, y: u64, lefts: &[u64], rights: &[u64]) -
     }
 }
 
-fn check_list(lefts: &[u64], rights: &[u64]) -> Result<(), u64> {
+pub(crate) fn check_list(lefts: &[u64], rights: &[u64]) -> Result<(), u64> {
     let fits = lefts.len() == rights.len() && lefts.len() <= MAX_PAIRS;
     fits.then_some(()).ok_or(BAD_LIST)
 }

@@ -33,9 +33,9 @@ pub struct Writing {
 }
 
 /// A refusal and its place.
-struct Fault {
-    answer: u64,
-    place: usize,
+pub(crate) struct Fault {
+    pub(crate) answer: u64,
+    pub(crate) place: usize,
 }
 
 /// Reads a pattern file with a row buffer of the given length.
@@ -48,6 +48,24 @@ pub fn read(bytes: &[u8], row_buffer_length: u64) -> Reading {
 }
 
 fn read_all(bytes: &[u8], row_buffer_length: u64) -> Result<Reading, Fault> {
+    let (reading, place) = read_part(bytes, row_buffer_length)?;
+    end(bytes, place)?;
+    Ok(reading)
+}
+
+/// TAIL where bytes follow the last number.
+pub(crate) fn end(bytes: &[u8], place: usize) -> Result<(), Fault> {
+    match place < bytes.len() {
+        true => Err(Fault {
+            answer: TAIL,
+            place,
+        }),
+        false => Ok(()),
+    }
+}
+
+/// The pattern's numbers and the place after them; bytes there are not looked at.
+pub(crate) fn read_part(bytes: &[u8], row_buffer_length: u64) -> Result<(Reading, usize), Fault> {
     let mut place = 0;
     let mut number =
         |range: RangeInclusive<u64>, answer| read_number(bytes, &mut place, range, answer);
@@ -63,27 +81,24 @@ fn read_all(bytes: &[u8], row_buffer_length: u64) -> Result<Reading, Fault> {
         .map(|_| set())
         .collect::<Result<Vec<_>, _>>()?;
     let (x, y) = (set()?, set()?);
-    if place < bytes.len() {
-        let answer = TAIL;
-        return Err(Fault { answer, place });
-    }
     let pattern = Pattern {
         states,
         letters,
         finals,
         rows,
     };
-    Ok(Reading {
+    let reading = Reading {
         answer: DONE,
         place: 0,
         pattern,
         x,
         y,
-    })
+    };
+    Ok((reading, place))
 }
 
 /// One number, judged by form and then by range; a fault has the place of its first byte.
-fn read_number(
+pub(crate) fn read_number(
     bytes: &[u8],
     place: &mut usize,
     range: RangeInclusive<u64>,

@@ -4,6 +4,10 @@
 //! independent judges of equivalence (`subsets`) and of what an expression takes
 //! (`derivatives`), then what tests draw their questions from (`random`, `questions`,
 //! `damage`, `phrases`) and how much they run (`rounds`).
+//! In reading order: the rules themselves (`answers` to `texts`), then
+//! independent judges of equivalence (`subsets`) and of what an expression takes
+//! (`derivatives`), then what tests draw their questions from (`random`, `questions`,
+//! `damage`, `phrases`) and how much they run (`rounds`).
 //!
 //! Nothing here is proved and nothing is made fast. Every function is total:
 //! whatever numbers come in, an answer goes out.
@@ -21,11 +25,13 @@ pub mod walk;
 
 pub mod inclusion;
 
+pub mod evidence_file;
 pub mod file;
 pub mod numbers;
 
 pub mod events;
 pub mod report;
+pub mod verdict;
 
 pub mod expressions;
 pub mod positions;

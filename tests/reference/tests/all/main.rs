@@ -10,6 +10,7 @@ mod refusals;
 mod congruence;
 mod evidence;
 mod expressions;
+mod evidence_files;
 mod files;
 mod inclusion;
 mod questions;

@@ -1,6 +1,6 @@
--- `compare::take_in` counts what came, which is never more than the buffer holds.
+-- `input::take_in` counts what came, which is never more than the buffer holds.
 use Rattle.std.proofs.Common.{length, ◌-◌, ◌≤◌}
-use Rattle.compare.proofs.take_in.Given as goal
+use Rattle.input.proofs.take_in.Given as goal
 
 abbrev pub invariant-loop-count : goal.invariant-loop-count
 invariant-loop-count g l = l.count ≤ length l.bytes

@@ -1,0 +1,86 @@
+// The question of an evidence file: read, checked, and answered by the one line that `check` prints, put into a lent buffer.
+#![tactic(auto)]
+
+ghost use Rattle.std.specs.Prelude.{◌≡◌, ◌≤◌, length};
+ghost use Rattle.lent.specs.Lent.{Put};
+ghost use Rattle.evidencefile.specs.EvidenceFile.{listsOf};
+ghost use Rattle.checking.specs.Checking.{Suffices, Answers, longest, Reported, Leaves};
+ghost use Rattle.checking.specs.Inner.{answerText};
+
+use evidence::Answer;
+use evidencefile::EvidenceRead;
+use text::{put_head, put_refusal};
+
+// The check's answer, or the reader's refusal and its place.
+#[derive(Drop)]
+pub enum Asked {
+    Answered(Answer),
+    Refused(u8, usize),
+}
+
+// Reads the file and checks its pairs; a file that was read is never refused by the check.
+pub fn ask(bytes: &[u8], rows: &mut [u64], lefts: &mut [u64], rights: &mut [u64]) -> Asked
+    requires { Suffices (listsOf rows.old lefts.old rights.old) }
+    ensures { Answers bytes.now (listsOf rows.old lefts.old rights.old) result (listsOf rows.new lefts.new rights.new) }
+{
+    let file = evidencefile::read(bytes, rows, lefts, rights);
+    match file {
+        EvidenceRead::Refused(number, place) => Asked::Refused(number, place),
+        EvidenceRead::Done {
+            states,
+            letters,
+            finals,
+            x,
+            y,
+            pairs,
+        } => {
+            let count = states * letters;
+            let answer = evidence::check(
+                states,
+                letters,
+                finals,
+                &rows[..count],
+                x,
+                y,
+                &lefts[..pairs],
+                &rights[..pairs],
+            );
+            Asked::Answered(answer)
+        }
+    }
+}
+
+// The line of the check's answer.
+fn put_answer(out: &mut [u8], answer: Answer) -> usize
+    requires { longest ≤ length out.old }
+    ensures { Put out.old 0 (answerText answer) result out.new }
+{
+    match answer {
+        Answer::Proved => put_head(out, 0, b"PROVED", &[]),
+        Answer::NotProved(place) => {
+            let places = [place as u64];
+            put_head(out, 0, b"NOT-PROVED", &places)
+        }
+        Answer::Refused(number) => put_refusal(out, 0, number, 0),
+    }
+}
+
+// What `check` prints for the bytes that it took in.
+pub fn report(
+    bytes: &[u8],
+    rows: &mut [u64],
+    lefts: &mut [u64],
+    rights: &mut [u64],
+    out: &mut [u8],
+) -> usize
+    requires lends { Suffices (listsOf rows.old lefts.old rights.old) }
+    requires room_in_bounds { longest ≤ length out.old }
+    ensures reports { Reported bytes.now out.old result out.new }
+    ensures leaves { Leaves bytes.now (listsOf rows.old lefts.old rights.old) (listsOf rows.new lefts.new rights.new) }
+{
+    let asked = ask(bytes, rows, lefts, rights);
+    match asked {
+        Asked::Refused(number, place) => put_refusal(out, 0, number, place),
+        Asked::Answered(answer) => put_answer(out, answer),
+    }
+}
