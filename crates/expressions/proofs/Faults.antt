@@ -21,7 +21,7 @@ use Rattle.expressions.specs.Scan.{Phase, turn, scan, Stops, Here, Comes, Faults
 use Rattle.expressions.specs.Scan.Phase.{going, halted}
 use Rattle.expressions.specs.Scan.Stops.{no_mark, no_bar, no_close, none_open}
 use Rattle.expressions.specs.Scan.Here.{bad_here, end_here, stop_here, many_here, deep_here}
-use Rattle.expressions.proofs.Machine.{Alts, Seqs, Frame, Machine, next, run, run_append, start, tree, Live, right_runs, runs_right, live_viable, viable_live, run_live, join_alt, join_seq, unambiguous}
+use Rattle.expressions.proofs.Machine.{Alts, Seqs, Frame, Machine, next, run, run_append, start, IsTree, Live, right_runs, runs_right, live_viable, viable_live, run_live, join_alt, join_seq, unambiguous}
 use Rattle.expressions.proofs.Machine.Facs.{no_fac, facs}
 use Rattle.expressions.proofs.Machine.Frame.{frame}
 use Rattle.expressions.proofs.Machine.Machine.{at}
@@ -145,7 +145,7 @@ module _ (text : List ℕ) (taken : ℕ) {q : ℕ} {n : Bool} {d u : ℕ} {ts : 
   next_run t = run_append ts (t ∷ []) start
 
   -- unfinished
-  tree_ends : {m : Machine} {k : Bool} {x y : ℕ} (e : Expr) → Like m (going k x y) → tree m e → (k ≡ true) ⊎ (0 < x) → ⊥
+  tree_ends : {m : Machine} {k : Bool} {x y : ℕ} (e : Expr) → Like m (going k x y) → IsTree m e → (k ≡ true) ⊎ (0 < x) → ⊥
   tree_ends w (like_need e) t h = t
   tree_ends w (like_done {k = []} e) t h = ⊎_elim (λ j. mathlib.Core.Bool.false≢true j) (λ j. omega arith) h
   tree_ends w (like_done {k = b ∷ k} e) t h = t
@@ -282,7 +282,7 @@ one_first {a = a} {p} {b} {q} f g =
     (λ l. ⊎_elim (λ k. absurd (omega (arith, l.0))) (λ k. (omega (arith, l.1, k.1), l.0)) (g.least a p f.wrong))
     (f.least b q g.wrong)
 
-tree_of : {m : Machine} {u : ℕ} → Like m (going false 0 u) → (e : Expr) × tree m e
+tree_of : {m : Machine} {u : ℕ} → Like m (going false 0 u) → (e : Expr) × IsTree m e
 tree_of (like_done {a} {s} {f} {k = []} e) = (join_alt a (join_seq s f), refl)
 tree_of (like_done {k = b ∷ k} e) = absurd (omega arith)
 

@@ -107,19 +107,19 @@ runs (group {ts} {e} q) = λ a s f k.
 -- ---- one list, one expression
 
 -- the expression where the text may end: nothing is open, and a factor has come
-abbrev pub tree : Machine → Expr → Type 0
-tree stopped e = ⊥
-tree (at a s no_fac k) e = ⊥
-tree (at a s (facs f) (x ∷ k)) e = ⊥
-tree (at a s (facs f) []) e = join_alt a (join_seq s f) ≡ e
+abbrev pub IsTree : Machine → Expr → Type 0
+IsTree stopped e = ⊥
+IsTree (at a s no_fac k) e = ⊥
+IsTree (at a s (facs f) (x ∷ k)) e = ⊥
+IsTree (at a s (facs f) []) e = join_alt a (join_seq s f) ≡ e
 
 abbrev pub start : Machine
 start = at no_alt no_seq no_fac []
 
-pub right_runs : {ts : List Token} {e : Expr} → Right ts e → tree (run ts start) e
-right_runs {ts} {e} q = let r = runs q [] in subst (λ (m : Machine). tree m e) (sym r.3) r.4
+pub right_runs : {ts : List Token} {e : Expr} → Right ts e → IsTree (run ts start) e
+right_runs {ts} {e} q = let r = runs q [] in subst (λ (m : Machine). IsTree m e) (sym r.3) r.4
 
-tree_one : (m : Machine) (e f : Expr) → tree m e → tree m f → e ≡ f
+tree_one : (m : Machine) (e f : Expr) → IsTree m e → IsTree m f → e ≡ f
 tree_one stopped e f p q = absurd p
 tree_one (at a s no_fac k) e f p q = absurd p
 tree_one (at a s (facs x) (y ∷ k)) e f p q = absurd p
@@ -193,7 +193,7 @@ held_run : (ts : List Token) {m : Machine} (us : List Token) → Held m us → H
 held_run [] {m} us h = subst (Held m) (sym (append-nil us)) h
 held_run (t ∷ ts) {m} us h = subst (Held (run ts (next t m))) (append_assoc us (t ∷ []) ts) (held_run ts (us ++ (t ∷ [])) (held_step t h))
 
-held_tree : {m : Machine} {us : List Token} {e : Expr} → Held m us → tree m e → Right us e
+held_tree : {m : Machine} {us : List Token} {e : Expr} → Held m us → IsTree m e → Right us e
 held_tree dead t = elim t [ ]
 held_tree (held ws xs ys zs p q r no_last e) t = absurd t
 held_tree (held ws xs ys zs (opened ds bs cs p q' r' e') q r (last z) e) t = absurd t
@@ -204,7 +204,7 @@ held_start : Held start []
 held_start = held [] [] [] [] bottom no_front no_line no_last refl
 
 -- the machine comes to an expression exactly where the list is right
-pub runs_right : (ts : List Token) {e : Expr} → tree (run ts start) e → Right ts e
+pub runs_right : (ts : List Token) {e : Expr} → IsTree (run ts start) e → Right ts e
 runs_right ts t = held_tree (held_run ts [] held_start) t
 
 -- ---- a list runs through exactly where some right list begins so
@@ -223,7 +223,7 @@ closes [] = []
 closes (x ∷ k) = close' ∷ closes k
 
 -- it can be finished so
-pub close_all : (k : List Frame) (a : Alts) (s : Seqs) (f : Expr) → (e : Expr) × tree (run (closes k) (at a s (facs f) k)) e
+pub close_all : (k : List Frame) (a : Alts) (s : Seqs) (f : Expr) → (e : Expr) × IsTree (run (closes k) (at a s (facs f) k)) e
 unfolding closes
 close_all [] a s f = (join_alt a (join_seq s f), refl)
 close_all (frame b t ∷ k) a s f = close_all k b t (join_alt a (join_seq s f))
@@ -237,13 +237,13 @@ live_viable_at ts (at a s f k) e l =
     record {
       rest = leaf unit ∷ closes k;
       tree = r.0;
-      right = runs_right (ts ++ (leaf unit ∷ closes k)) (subst (λ (m : Machine). tree m r.0) (sym j) r.1);
+      right = runs_right (ts ++ (leaf unit ∷ closes k)) (subst (λ (m : Machine). IsTree m r.0) (sym j) r.1);
     }
 
 pub live_viable : (ts : List Token) → Live (run ts start) → Viable ts
 live_viable ts l = live_viable_at ts (run ts start) refl l
 
-tree_live : (m : Machine) (e : Expr) → tree m e → Live m
+tree_live : (m : Machine) (e : Expr) → IsTree m e → Live m
 tree_live stopped e t = t
 tree_live (at a s f k) e t = tt
 
@@ -275,5 +275,5 @@ finish ts l = go (run ts start) refl l
         let c = closes_are k in
         let j : run (ts ++ (leaf unit ∷ closes k)) start ≡ run (closes k) (at a (flush s f) (facs one) k) = run_append ts (leaf unit ∷ closes k) start
         ∙ ap (run (leaf unit ∷ closes k)) e in
-        let q : Right (ts ++ (leaf unit ∷ closes k)) r.0 = runs_right (ts ++ (leaf unit ∷ closes k)) (subst (λ (m : Machine). tree m r.0) (sym j) r.1) in
+        let q : Right (ts ++ (leaf unit ∷ closes k)) r.0 = runs_right (ts ++ (leaf unit ∷ closes k)) (subst (λ (m : Machine). IsTree m r.0) (sym j) r.1) in
         (c.0, r.0, subst (λ (z : List Token). Right (ts ++ (leaf unit ∷ z)) r.0) c.1 q)

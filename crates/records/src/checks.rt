@@ -14,7 +14,7 @@ use sets::States;
 const MOST_SHOWN: usize = States::MAX_ROOM + 1;
 
 // How many records are looked at.
-fn shown(listed: usize) -> usize
+pub fn shown(listed: usize) -> usize
     ensures { Shown listed result }
 {
     if listed > States::MAX_ROOM {
@@ -24,7 +24,7 @@ fn shown(listed: usize) -> usize
 }
 
 // The sides of the first `n` records.
-fn gather(records: &[PbRecord], n: usize, lefts: &mut [u64], rights: &mut [u64])
+pub fn gather(records: &[PbRecord], n: usize, lefts: &mut [u64], rights: &mut [u64])
     requires lefts_fit { n ≤ length lefts.old }
     requires rights_fit { n ≤ length rights.old }
     requires list_fits { n ≤ length records.now }

@@ -27,7 +27,7 @@ fn asked(room: usize, places: usize, listed: usize, bytes: usize) -> usize
 }
 
 // Writes the first `n` records of the columns.
-fn fill(
+pub fn fill(
     lefts: &[u64],
     rights: &[u64],
     parents: &[u16],
