@@ -3,17 +3,14 @@ use mathlib.Core.Logic.{◌⊎◌, inl, inr}
 use mathlib.Core.Path.{◌≡◌, refl, sym, ap, ◌∙◌}
 use mathlib.Core.List.{List, [], ◌∷◌, ◌++◌}
 use Prim.Native.Nat.{ℕ, ◌*◌}
-use lib.ListN.{length, take, drop, take-append-drop}
-use lib.Seq.{length-take-le}
-use Rattle.pattern.specs.Tests.{set_test}
+use lib.ListN.{length}
 use Rattle.numbers.specs.Numbers.{AreBytes}
-use Rattle.numbers.specs.Format.{ended, Reading, got, refused, file_reading, Fits}
+use Rattle.numbers.specs.Format.{Reading, got, refused, file_reading}
 use Rattle.numbers.proofs.Formats.{refused_got, IsFile, file_write_after_read}
-use Rattle.numbers.proofs.Parts.{FitsMany, fits_many}
-use Rattle.patternfile.specs.PatternFile.{numbers_of, starts_then, pattern_then, pattern_format}
+use Rattle.patternfile.specs.PatternFile.{numbers_of, pattern_format}
 use Rattle.patternfile.proofs.Contents.{accepted_valid, NumbersOf, fits_numbers}
 use Rattle.patternfile.proofs.Determined.{same_rows}
-use Rattle.walk.specs.Walk.{Question, question_of}
+use Rattle.walk.specs.Walk.{Question}
 use Rattle.walk.specs.Meaning.{Proper}
 use Rattle.asking.specs.Asking.{row_room, Asks, Refuses}
 

@@ -4,7 +4,7 @@ use mathlib.Core.Path.{◌≡◌, refl, sym, ap, ◌∙◌, subst}
 use mathlib.Core.List.{List}
 use Prim.Native.Nat.{ℕ, ◌*◌, ◌≤◌}
 use native.Mathlib.Omega.{arith}
-use lib.ListN.{length, take}
+use lib.ListN.{length}
 use Rattle.numbers.specs.Numbers.{AreBytes}
 use Rattle.numbers.specs.Format.{Reading, got, refused, file_reading}
 use Rattle.numbers.proofs.Formats.{IsFile, file_write_after_read}
@@ -12,7 +12,7 @@ use Rattle.evidence.specs.Evidence.{Offer, offer_of, ValidOffer, Checked}
 use Rattle.evidence.specs.declared.Answer.{Answer}
 use Rattle.evidencefile.specs.declared.EvidenceRead.{EvidenceRead}
 use Rattle.evidencefile.specs.declared.EvidenceRead.TheVariants as Read
-use Rattle.evidencefile.specs.EvidenceFile.{Rooms, Lists, rooms_of, lay_offer, numbers_of, evidence_format}
+use Rattle.evidencefile.specs.EvidenceFile.{Rooms, Lists, rooms_of, numbers_of, evidence_format}
 use Rattle.evidencefile.specs.Reader.{FileOf, ReadDone, ReadRefused, Reads}
 use Rattle.evidencefile.proofs.Contents.{Accepted, accepted_valid, OfferOf, fits_offer}
 use Rattle.evidencefile.proofs.RoundTrip.{offer_in, left_offer}

@@ -1,7 +1,6 @@
 -- What some texts look like. Assumes nothing.
 use mathlib.Core.Path.{◌≡◌, refl}
-use mathlib.Core.List.{List, [], ◌∷◌}
-use Prim.Native.Nat.{ℕ}
+use mathlib.Core.List.{[]}
 use Rattle.numbers.specs.Numbers.{groups, number_at}
 use Rattle.numbers.specs.Format.{reading, file_reading}
 use Rattle.patternfile.specs.PatternFile.{pattern_then}

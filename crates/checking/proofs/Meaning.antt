@@ -5,7 +5,7 @@ use mathlib.Core.List.{List}
 use Prim.Native.Nat.{ℕ, ◌*◌, ◌≤◌}
 use native.Mathlib.Nat.{mul-le-mul}
 use native.Mathlib.Omega.{arith}
-use lib.ListN.{length, get_or}
+use lib.ListN.{get_or}
 use Rattle.pattern.specs.Language.{SameLanguage}
 use Rattle.evidence.specs.Evidence.{Offer, ValidOffer}
 use Rattle.evidence.specs.Meaning.{Holding}

@@ -1,6 +1,6 @@
 -- From what asking and putting ensure to what is reported. Assumes nothing.
-use mathlib.Core.Path.{◌≡◌, sym}
-use mathlib.Core.List.{List, [], ◌∷◌, map}
+use mathlib.Core.Path.{sym}
+use mathlib.Core.List.{List, ◌∷◌, map}
 use Prim.Native.Nat.{ℕ, ◌+◌, ◌≤◌}
 use native.Mathlib.Omega.{arith}
 use lib.ListN.{length}
@@ -13,10 +13,10 @@ use Rattle.evidence.specs.declared.Answer.{Answer}
 use Rattle.evidence.specs.declared.Answer.TheVariants.{Proved, NotProved, Refused}
 use Rattle.evidence.proofs.CheckHonest.{check_honest}
 use Rattle.evidencefile.specs.EvidenceFile.{Lists}
-use Rattle.text.specs.Text.{word, decimal, line, refusal_text}
+use Rattle.text.specs.Text.{decimal, line, refusal_text}
 use Rattle.text.proofs.Lines.{head_short, refusal_short}
 use Rattle.checking.specs.declared.Asked.{Asked}
-use Rattle.checking.specs.Checking.{Offers, Answers, proved_text, not_proved_text, Prints, longest, Reported}
+use Rattle.checking.specs.Checking.{Offers, Answers, Prints, longest, Reported}
 use Rattle.checking.specs.Inner.{answer_text}
 use Rattle.checking.proofs.Asking.{offers_valid}
 

@@ -1,6 +1,6 @@
 -- What only the inner functions cite.
 --   answer_text answer   what is printed of the check's answer
-use Rattle.std.specs.Prelude.{List, [], ◌∷◌, ℕ}
+use Rattle.std.specs.Prelude.{List, ℕ}
 use Rattle.evidence.specs.declared.Answer.{Answer}
 use Rattle.evidence.specs.declared.Answer.TheVariants.{Proved, NotProved, Refused}
 use Rattle.text.specs.Text.{refusal_text}

@@ -7,10 +7,9 @@ use mathlib.Core.Path.{◌≡◌, refl, sym, ap, ap₂, ◌∙◌, subst}
 use native.Mathlib.Nat.{lt_of_lt_of_le}
 use native.Mathlib.Omega.{arith}
 use lib.Dec.{leb}
-use lib.ListN.{length, drop, get_or, length-append}
+use lib.ListN.{length, drop, length-append}
 use lib.Pow.{pow_mono}
 use borrow.Author.Tests.{leb-true, le-leb}
-use Rattle.verdict.specs.declared.Verdict.{Verdict}
 use Rattle.verdict.specs.declared.Verdict.TheVariants.{Fine}
 use Rattle.verdict.proofs.Ordered.{need_holds, need_fine}
 use Rattle.sets.specs.Sets.{Good}
@@ -22,8 +21,7 @@ use Rattle.numbers.specs.Numbers.{encode, AreBytes}
 use Rattle.numbers.specs.Format.{Format, ended, many, got, reading, encode_all, Fits}
 use Rattle.numbers.proofs.Formats.{ReadAs, behind, reading_after_write, write_after_reading, file_write_after_read}
 use Rattle.numbers.proofs.Parts.{many_size, FitsFollowed, fits_followed}
-use Rattle.patternfile.specs.PatternFile as PatternFile
-use Rattle.patternfile.specs.PatternFile.{pattern_then, pattern_format}
+use Rattle.patternfile.specs.PatternFile.{pattern_format}
 use Rattle.patternfile.proofs.Contents.{Contents, fits_contents, contents_fit, NumbersOf, fits_numbers, first, pattern_followed, FitsPart, fits_part, part_fits}
 use Rattle.evidence.specs.Evidence.{Offer, ValidOffer}
 use Rattle.evidencefile.specs.EvidenceFile.{Rooms, alternating, numbers_of, file_bytes, count_test, pair_room_test, pairs_format, evidence_format}

@@ -1,12 +1,11 @@
 -- Both promises determine their calls: two results that one of them allows are equal, and so is what they leave in the buffers.
-use Prim.Native.Nat.{ℕ, ◌+◌, ◌*◌}
+use Prim.Native.Nat.{ℕ, ◌*◌}
 use mathlib.Core.List.{List, [], ◌∷◌, ◌++◌, append_assoc}
 use mathlib.Core.Path.{◌≡◌, refl, sym, ap, ◌∙◌}
 use lib.ListN.{length, take, drop}
 use lib.Seq.{take_at, drop_at}
 use Rattle.verdict.proofs.Ordered.{apart, one_number}
 use Rattle.lent.proofs.Putting.{put_determined}
-use Rattle.pattern.specs.Pattern.{pattern_of}
 use Rattle.numbers.specs.Format.{got, refused}
 use Rattle.numbers.proofs.Formats.{refused_got}
 use Rattle.patternfile.specs.declared.Written.{Written}

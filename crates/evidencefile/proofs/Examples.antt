@@ -1,5 +1,5 @@
 -- Evidence files computed by the definitions: the scope's own, and one for each order that could be got wrong.
-use mathlib.Core.List.{List, [], ◌∷◌}
+use mathlib.Core.List.{[], ◌∷◌}
 use mathlib.Core.Path.{◌≡◌, refl}
 use Prim.Native.Nat.{ℕ}
 use Rattle.verdict.specs.Tests.{need, in_order}

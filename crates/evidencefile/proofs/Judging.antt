@@ -1,8 +1,7 @@
 -- The first pass over the count and the pairs: each way out of it is what reading them gives.
 use Prim.Native.Nat.{ℕ, ◌*◌, ◌≤◌}
-use mathlib.Core.List.{List, [], ◌∷◌}
-use mathlib.Core.Path.{◌≡◌, refl, sym, ap, ◌∙◌}
-use native.Mathlib.Omega.{arith}
+use mathlib.Core.List.{List}
+use mathlib.Core.Path.{◌≡◌, sym, ap, ◌∙◌}
 use Rattle.verdict.specs.declared.Verdict.{Verdict}
 use Rattle.verdict.specs.declared.Verdict.TheVariants.{Fine, Against}
 use Rattle.sets.specs.Rooms.{max_room}
@@ -10,11 +9,11 @@ use Rattle.pattern.specs.Tests.{set_test}
 use Rattle.numbers.specs.declared.Number.{Number}
 use Rattle.numbers.specs.declared.Number.TheVariants.{Value, Fault}
 use Rattle.numbers.specs.Numbers.{number_at}
-use Rattle.numbers.specs.Format.{Format, ended, item, gate, many, Reading, got, refused, held_to, unless_refused, before, reading}
+use Rattle.numbers.specs.Format.{Format, ended, gate, many, held_to, unless_refused, before, reading}
 use Rattle.numbers.proofs.Formats.{held}
 use Rattle.numbers.proofs.Steps.{item_taken, item_stopped}
 use Rattle.patternfile.specs.Parts.{passed}
-use Rattle.patternfile.proofs.Judging.{numbers_in, passed_got, passed_refused}
+use Rattle.patternfile.proofs.Judging.{passed_got, passed_refused}
 use Rattle.evidencefile.specs.EvidenceFile.{count_test, pair_room_test, pairs_format}
 use Rattle.evidencefile.specs.Parts.{counted}
 use Rattle.evidencefile.proofs.Contents.{count_fine}

@@ -1,30 +1,27 @@
 -- The longest file has 40,994 bytes: none is longer, one is as long, and taking in 40,995 bytes never changes an answer.
-use Prim.Native.Nat.{ℕ, zero, suc, ◌+◌, ◌*◌, ◌-◌, ◌/◌, ◌^◌, ◌<◌, ◌≤◌}
-use mathlib.Core.List.{List, [], ◌∷◌, ◌++◌}
-use mathlib.Core.Path.{◌≡◌, refl, ap, ◌∙◌, subst}
+use Prim.Native.Nat.{ℕ, ◌+◌, ◌*◌, ◌/◌, ◌<◌, ◌≤◌}
+use mathlib.Core.List.{List}
+use mathlib.Core.Path.{◌≡◌, refl, ap, subst}
 use native.Mathlib.Decide.{dec_lt}
 use native.Mathlib.Omega.{arith}
-use lib.ListN.{length, take, drop, length-append, replicate, length-replicate, get_or-replicate}
-use Rattle.verdict.specs.declared.Verdict.TheVariants.{Fine}
+use lib.ListN.{length, take, replicate, length-replicate, get_or-replicate}
 use Rattle.sets.specs.Sets.{Good}
 use Rattle.sets.specs.Rooms.{max_room}
 use Rattle.pattern.specs.Pattern.{AllGood}
 use Rattle.pattern.specs.Tests.{set_test}
 use Rattle.numbers.specs.Numbers.{encode, encode_in, AreBytes}
-use Rattle.numbers.specs.Format.{Format, ended, item, gate, many, got, unless_refused, reading, file_reading, encode_all, Fits}
+use Rattle.numbers.specs.Format.{Format, ended, gate, many, unless_refused, reading, file_reading, encode_all, Fits}
 use Rattle.numbers.proofs.Groups.{encode_last, encode_more}
 use Rattle.numbers.proofs.RoundTrip.{Found, write_after_read}
-use Rattle.numbers.proofs.TenBytes.{encode_ten}
 use Rattle.numbers.proofs.ListLoops.{all_ten}
-use Rattle.numbers.proofs.Formats.{ReadAs, write_after_reading, file_write_after_read}
-use Rattle.numbers.proofs.Parts.{many_size}
+use Rattle.numbers.proofs.Formats.{ReadAs, write_after_reading}
 use Rattle.numbers.proofs.Reach.{Short, short_more, short_many, item_reach, reach, followed_reach, cap_reach}
 use Rattle.patternfile.specs.PatternFile.{pattern_format}
 use Rattle.patternfile.proofs.Contents.{first, pattern_followed}
 use Rattle.patternfile.proofs.Longest as PatternFile
 use Rattle.patternfile.proofs.Longest.{file_short, fits_short, pattern_reach, all_states, ten_each, as_long}
 use Rattle.evidence.specs.Evidence.{Offer, offer_of, ValidOffer}
-use Rattle.evidencefile.specs.EvidenceFile.{Rooms, alternating, numbers_of, file_bytes, count_test, pair_room_test, pairs_format, evidence_format}
+use Rattle.evidencefile.specs.EvidenceFile.{Rooms, alternating, file_bytes, count_test, pair_room_test, pairs_format, evidence_format}
 use Rattle.evidencefile.specs.Reader.{FileOf}
 use Rattle.evidencefile.proofs.Sides.{alternating_length, sides_size}
 use Rattle.evidencefile.proofs.Contents.{count_fine, OfferOf, fits_offer, fits_accepted, file_bytes_lem, accepted_valid}

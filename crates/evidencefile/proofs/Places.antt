@@ -1,25 +1,23 @@
 -- Where and why the reader refuses: each refusal by its line of the scope, with its place.
 use Prim.Native.Nat.{ℕ, ◌+◌, ◌*◌, ◌^◌, ◌<◌, ◌≤◌}
-use mathlib.Core.Bool.{Bool, true, false, ◌&&◌}
-use mathlib.Core.List.{List, [], ◌∷◌, ◌++◌, append-nil}
+use mathlib.Core.List.{List, ◌∷◌, ◌++◌, append-nil}
 use mathlib.Core.Logic.{◌↔◌, ◌⊎◌, inl, inr}
 use mathlib.Core.Path.{◌≡◌, refl, sym, ap, ap₂, ◌∙◌, subst}
 use native.Mathlib.Decide.{dec_le, dec_lt}
-use native.Mathlib.Nat.{zero-add}
 use native.Mathlib.Omega.{arith}
 use lib.Dec.{leb}
 use lib.ListN.{length, take, drop}
 use lib.Seq.{take_at}
 use borrow.Author.Tests.{leb-false}
-use Rattle.verdict.specs.declared.Verdict.TheVariants.{Fine, Against}
+use Rattle.verdict.specs.declared.Verdict.TheVariants.{Against}
 use Rattle.verdict.proofs.Ordered.{apart, need_against}
 use Rattle.sets.specs.Rooms.{max_room}
 use Rattle.pattern.specs.Pattern.{Pattern}
 use Rattle.pattern.specs.Tests.{set_test}
 use Rattle.numbers.specs.declared.Number.TheVariants.{Value, Fault}
 use Rattle.numbers.specs.Numbers.{encode, number_at, AreBytes}
-use Rattle.numbers.specs.Format.{Format, ended, item, gate, many, Reading, got, refused, reading, file_reading, encode_all, Fits}
-use Rattle.numbers.specs.Faults.{Padded, TooBig, After, here, taken, through, StoppedBy, by_form, by_range, by_gate, by_tail, Stops}
+use Rattle.numbers.specs.Format.{Format, ended, item, gate, many, Reading, got, refused, reading, file_reading, encode_all}
+use Rattle.numbers.specs.Faults.{Padded, TooBig, After, here, taken, through, StoppedBy, by_form, by_range, by_gate, Stops}
 use Rattle.numbers.proofs.RoundTrip.{read_after_write}
 use Rattle.numbers.proofs.Faults.{cut_exactly, padded_exactly, too_big_exactly, fault_is}
 use Rattle.numbers.proofs.Formats.{refused_got, ReadAs, write_after_reading, file_read_after_write}
@@ -34,10 +32,10 @@ use Rattle.patternfile.proofs.Places as PatternPlaces
 use Rattle.patternfile.proofs.Places.{set_against, refused_there}
 use Rattle.evidencefile.specs.declared.EvidenceRead.{EvidenceRead}
 use Rattle.evidencefile.specs.declared.EvidenceRead.TheVariants.{Done, Refused}
-use Rattle.evidencefile.specs.EvidenceFile.{Rooms, Lists, rooms_of, numbers_of, count_test, pair_room_test, pairs_format, evidence_format}
-use Rattle.evidencefile.specs.Reader.{FileOf, Reads}
+use Rattle.evidencefile.specs.EvidenceFile.{Rooms, Lists, rooms_of, count_test, pair_room_test, pairs_format, evidence_format}
+use Rattle.evidencefile.specs.Reader.{Reads}
 use Rattle.evidencefile.specs.Refusals.{RefusedAt, in_pattern, bad_list, no_room, bad_set, cut, padded, too_big, tail}
-use Rattle.evidencefile.proofs.Contents.{count_fine, pair_room_fine, OfferOf, fits_offer}
+use Rattle.evidencefile.proofs.Contents.{pair_room_fine, OfferOf, fits_offer}
 
 -- ---- what each test refuses
 

@@ -1,13 +1,10 @@
 -- The whole reader: the first pass over the pattern's numbers and over the pairs, and what the second pass then leaves.
 use Prim.Native.Nat.{ℕ, ◌+◌, ◌*◌, ◌<◌, ◌≤◌}
 use mathlib.Core.List.{List, [], ◌∷◌, ◌++◌}
-use mathlib.Core.Logic.{◌⊎◌, inl, inr}
 use mathlib.Core.Path.{◌≡◌, refl, sym, ap, ap₂, ◌∙◌, subst}
 use native.Mathlib.Omega.{arith}
 use lib.ListN.{length}
-use Rattle.verdict.proofs.Ordered.{need_fails}
 use Rattle.lent.specs.Lent.{lay}
-use Rattle.sets.specs.Rooms.{max_room}
 use Rattle.pattern.specs.Pattern.{Sized, pattern_of}
 use Rattle.pattern.specs.Tests.{set_test}
 use Rattle.numbers.specs.declared.Number.{Number}
@@ -17,7 +14,7 @@ use Rattle.numbers.specs.Format.{Reading, got, refused, reading, file_reading, e
 use Rattle.numbers.proofs.RoundTrip.{fault_value}
 use Rattle.numbers.proofs.Formats.{write_after_reading, file_write_after_read}
 use Rattle.numbers.proofs.Parts.{before_all}
-use Rattle.numbers.proofs.Steps.{Reached, file_stopped, file_tail, file_whole}
+use Rattle.numbers.proofs.Steps.{file_stopped, file_tail, file_whole}
 use Rattle.patternfile.specs.declared.PatternPart.{PatternPart}
 use Rattle.patternfile.specs.declared.PatternPart.TheVariants.{Whole, Stopped}
 use Rattle.patternfile.specs.PatternFile as PatternFile
@@ -25,7 +22,7 @@ use Rattle.patternfile.specs.Parts.{PartOf, Judges, Filled}
 use Rattle.patternfile.proofs.Contents.{part_valid, rows_stand, part_then, part_stopped}
 use Rattle.evidence.specs.Evidence.{offer_of}
 use Rattle.evidencefile.specs.declared.EvidenceRead.TheVariants.{Done, Refused}
-use Rattle.evidencefile.specs.EvidenceFile.{Lists, lists_of, rooms_of, alternating, numbers_of, pairs_format, evidence_format}
+use Rattle.evidencefile.specs.EvidenceFile.{Lists, lists_of, rooms_of, numbers_of, pairs_format, evidence_format}
 use Rattle.evidencefile.specs.Reader.{Reads}
 use Rattle.evidencefile.specs.Parts.{counted, FilledPairs}
 use Rattle.evidencefile.proofs.Sides.{Parted, parted}

@@ -1,5 +1,5 @@
 -- What the writer refuses: by which numbers, and exactly where. Assumes nothing.
-use Prim.Native.Nat.{ℕ, ◌≤◌}
+use Prim.Native.Nat.{ℕ}
 use mathlib.Core.Logic.{◌↔◌}
 use mathlib.Core.Path.{◌≡◌}
 use lib.ListN.{length}

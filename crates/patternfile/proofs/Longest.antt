@@ -2,24 +2,21 @@
 use Prim.Native.Nat.{ℕ, zero, suc, ◌+◌, ◌*◌, ◌-◌, ◌^◌, ◌<◌, ◌≤◌}
 use mathlib.Core.List.{List, [], ◌∷◌, ◌++◌}
 use mathlib.Core.Path.{◌≡◌, refl, ap, ◌∙◌}
-use native.Mathlib.Decide.{dec_le}
 use native.Mathlib.Nat.{mul-le-mul}
 use native.Mathlib.Omega.{arith}
 use lib.ListN.{length, take, drop, length-append, length-drop, replicate, length-replicate, get_or-replicate}
-use lib.Seq.{take_all, length-take-le}
-use borrow.Author.Tests.{lt-ltb}
 use Rattle.sets.specs.Sets.{Good}
 use Rattle.pattern.specs.Pattern.{Pattern, Valid, pattern_of}
 use Rattle.pattern.specs.Tests.{size_test, set_test, space_test}
 use Rattle.pattern.proofs.Validity.{size_fine}
 use Rattle.verdict.specs.declared.Verdict.TheVariants.{Fine}
 use Rattle.numbers.specs.Numbers.{encode, encode_in, number_at, AreBytes}
-use Rattle.numbers.specs.Format.{ended, item, many, Reading, got, refused, unless_refused, reading, no_tail, file_reading, encode_all, Fits}
+use Rattle.numbers.specs.Format.{ended, item, many, unless_refused, reading, file_reading, encode_all, Fits}
 use Rattle.numbers.proofs.Groups.{one_byte}
 use Rattle.numbers.proofs.RoundTrip.{Found, write_after_read}
 use Rattle.numbers.proofs.TenBytes.{encode_ten}
 use Rattle.numbers.proofs.ListLoops.{all_ten}
-use Rattle.numbers.proofs.Formats.{Held, ReadAs, write_after_reading, file_write_after_read}
+use Rattle.numbers.proofs.Formats.{Held, file_write_after_read}
 use Rattle.numbers.proofs.Parts.{FitsMany, fits_many, encode_append}
 use Rattle.numbers.proofs.Reach.{Short, short_more, short_many, item_reach, reach, cap_reach}
 use Rattle.patternfile.specs.PatternFile.{numbers_of, file_bytes, starts_then, sets_then, after_letters, pattern_then, pattern_format}

@@ -7,7 +7,7 @@ use native.Mathlib.Decide.{ℕ_discrete}
 use native.Mathlib.Omega.{arith}
 use lib.Bits.{bit_or, or_lt, and_mask}
 use lib.Pow.{pow_mono, pow_pos, shr-shr}
-use Rattle.sets.specs.Sets.{bit, Has, Within, Good}
+use Rattle.sets.specs.Sets.{Has, Within, Good}
 use Rattle.sets.proofs.Bits.{some_state}
 use Rattle.sets.proofs.Inclusion.{within_test}
 

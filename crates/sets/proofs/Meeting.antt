@@ -1,7 +1,7 @@
 -- Two sets meet where a state is in both; a union meets what one of its parts meets. Assumes nothing.
 use mathlib.Core.Path.{◌≡◌, ap, ◌∙◌}
 use mathlib.Core.Logic.{◌↔◌}
-use mathlib.Core.Bool.{Bool, true, not, ◌||◌}
+use mathlib.Core.Bool.{true, not, ◌||◌}
 use Prim.Native.Nat.{ℕ}
 use native.Mathlib.Decide.{ℕ_discrete}
 use native.Mathlib.Omega.{arith}

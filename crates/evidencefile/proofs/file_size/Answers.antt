@@ -1,12 +1,8 @@
 -- `evidencefile::file_size` is the size of the pattern's numbers, of the count and of the two sides.
-use Prim.Native.Nat.{ℕ, ◌+◌, ◌*◌, ◌≤◌}
-use mathlib.Core.List.{[], ◌∷◌}
 use native.Mathlib.Omega.{arith}
-use lib.ListN.{length}
 use Rattle.pattern.specs.Pattern.{pattern_of}
 use Rattle.numbers.proofs.ListLoops.{all_ten}
 use Rattle.numbers.proofs.TenBytes.{encode_ten}
-use Rattle.patternfile.specs.PatternFile.{file_bytes}
 use Rattle.patternfile.proofs.Storing.{part_ten}
 use Rattle.evidence.specs.Evidence.{offer_of}
 use Rattle.evidencefile.proofs.Storing.{sizes_add}

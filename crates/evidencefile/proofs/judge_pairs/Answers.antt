@@ -1,6 +1,6 @@
 -- `evidencefile::judge_pairs` goes through the format behind the pattern's numbers.
 use Prim.Native.Nat.{ℕ, ◌*◌}
-use mathlib.Core.Path.{◌≡◌, sym, ap, ◌∙◌}
+use mathlib.Core.Path.{◌≡◌, ap, ◌∙◌}
 use native.Mathlib.Omega.{arith}
 use Rattle.pattern.specs.Tests.{set_test}
 use Rattle.numbers.specs.declared.Number.{Number}

@@ -1,15 +1,15 @@
 -- `evidencefile::read`: the two parts of the first pass give the answer unless bytes follow, and the second pass finds rows and pairs where they stand.
-use Prim.Native.Nat.{ℕ, ◌+◌, ◌*◌, ◌≤◌}
+use Prim.Native.Nat.{ℕ, ◌+◌}
 use mathlib.Core.List.{List}
-use mathlib.Core.Path.{◌≡◌, refl, sym, ap, ◌∙◌}
+use mathlib.Core.Path.{refl, sym, ap, ◌∙◌}
 use native.Mathlib.Omega.{arith}
-use lib.ListN.{length, get_or}
+use lib.ListN.{get_or}
 use mir.Syntax.{w8}
 use mir.Val.{Fits}
 use Rattle.numbers.specs.Numbers.{AreBytes}
 use Rattle.numbers.proofs.TenBytes.{encode_ten}
-use Rattle.evidencefile.specs.EvidenceFile.{Lists, lists_of}
-use Rattle.evidencefile.proofs.Reading.{reads_stopped, reads_fault, reads_tail, reads_sized, reads_rows, reads_lefts, reads_rights, reads_placed, reads_done}
+use Rattle.evidencefile.specs.EvidenceFile.{lists_of}
+use Rattle.evidencefile.proofs.Reading.{reads_stopped, reads_fault, reads_tail, reads_rows, reads_lefts, reads_rights, reads_placed, reads_done}
 use Rattle.evidencefile.proofs.read.Goals as goal
 use Rattle.evidencefile.proofs.read.Goals.{In-Value}
 

@@ -1,6 +1,5 @@
 -- `evidencefile::write`: once the tests are passed, there is room for the file's parts, one after the other.
 use mathlib.Core.Path.{refl, sym, ◌∙◌}
-use native.Mathlib.Omega.{arith}
 use lib.ListN.{length}
 use Rattle.evidence.specs.Evidence.{Offer, offer_of}
 use Rattle.evidencefile.specs.Writer.{Allowed}
