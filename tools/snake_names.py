@@ -27,6 +27,8 @@ USE = re.compile(r"^[ \t]*(?:pub )?(?:ghost )?use ([^\s;{]+?)(?:\.?\{([^}]*)\})?
 # What is no code: comments, strings, characters.
 ANTT = re.compile(r'--.*$|"(?:[^"\\\n]|\\.)*"', re.M)
 RUST = re.compile(r'//.*$|b?"(?:[^"\\]|\\.)*"|b?\'(?:[^\'\\\n]|\\.)\'', re.M)
+# What an answer file declares that is no goal.
+BESIDE = re.compile(r"(?:^|\blet )(?:abbrev )?(?:pub )?([a-z][\w']*(?:-[\w']+)+)(?: [({].*?[)}])* (?::(?! goal\.)|=)", re.M)
 # The variables of an answer behind which stands what a goal gives.
 GIVEN = re.compile(r"\| (?:then|else|in)[-_]\S* (\w+) ↦|let (\w+) = \(goal\.at")
 
@@ -74,13 +76,12 @@ def own_names():
     """Each of the repository's own names that is to be spelled anew, with its new spelling."""
     found = {}
     for path in files("crates", ".antt"):
-        if os.path.basename(path) in OF_GOALS:
-            continue
         text = text_of(path)
         brought = foreign(text)
+        declared = {n for n in BESIDE.findall(text) if f"{n} : goal." not in text} if os.path.basename(path) in OF_GOALS else None
         for is_code, part in parts(text, ANTT):
             for name in NAME.findall(part) if is_code else ():
-                if OLD.match(name) and name not in brought:
+                if OLD.match(name) and name not in brought and (declared is None or name in declared):
                     found.setdefault(name, set()).add(path)
     names = {n: ELSE.get(n) or new_name(n) for n in found if new_name(n) != n}
     for lemma in [n for n in names if "-" in n]:

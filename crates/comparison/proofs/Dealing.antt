@@ -153,10 +153,10 @@ module _ {c : Call} {n e : ℕ} {made : Candidate} (here : Facing c n e made) wh
       at (suc d) z = omega (arith, later_parent (λ y. omega arith), here.ready.within, here.ready.roomy.most)
 
   -- the way to the parent, in the lists as the code shows them
-  long_parents : length (take n c.lent.columns.parents) ≡ n
+  pub long_parents : length (take n c.lent.columns.parents) ≡ n
   long_parents = length-take-le n c.lent.columns.parents (fit here.ready).parents
 
-  long_taken : length (take n c.lent.columns.taken) ≡ n
+  pub long_taken : length (take n c.lent.columns.taken) ≡ n
   long_taken = length-take-le n c.lent.columns.taken (fit here.ready).taken
 
   way_there : (e ≡ 0 → ⊥) → Way (take n c.lent.columns.parents) (take n c.lent.columns.taken) made.parent

@@ -5,7 +5,7 @@
 --   Padded i bytes          the bad byte is a last group of 0 after at least one other: 21 PADDED (`padded_exactly`), which adds nothing
 --                           (`padded_is_needless`)
 --   TooBig i bytes          the bad byte is a tenth byte other than 00 or 01: 23 TOO-BIG (`too_big_exactly`), so that the value is
---                           2 ^ 64 or more (`too_big_is_big`)
+--                           2 ^ 64 or more (`too_big_is_big`), or has no end within ten bytes
 --   worth bytes             what their groups are worth, lowest first
 --   After f us g            what is left of a format behind some numbers that it takes
 --   StoppedBy s w place f   why reading a format stops at a place, with the refusal w

@@ -63,7 +63,7 @@ map_drop f zero rs = refl
 map_drop f (suc n) [] = refl
 map_drop f (suc n) (r ∷ rs) = map_drop f n rs
 
-map_written : (x : Field) (kept : List Record) → map (value_in x) (map written kept) ≡ map (value x) kept
+pub map_written : (x : Field) (kept : List Record) → map (value_in x) (map written kept) ≡ map (value x) kept
 map_written x [] = refl
 map_written x (k ∷ kept) = ap (λ (t : List ℕ). value x k ∷ t) (map_written x kept)
 

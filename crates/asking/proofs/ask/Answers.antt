@@ -5,13 +5,13 @@ use Rattle.numbers.specs.Numbers.{AreBytes}
 use Rattle.asking.proofs.Answering.{refused_answers, Accepted, few_rows, accepted_answers}
 use Rattle.asking.proofs.ask.Goals as goal
 
-as-bytes : {s : List ℕ} → ((i : ℕ) → Fits w8 (get_or s i 0)) → AreBytes s
-as-bytes f = record { each = λ i. omega (arith, f i) }
+as_bytes : {s : List ℕ} → ((i : ℕ) → Fits w8 (get_or s i 0)) → AreBytes s
+as_bytes f = record { each = λ i. omega (arith, f i) }
 
 -- the file that was read
 file : (c : goal.In-Done)
     → Accepted c.args.bytes.now c.args.rows.now c.in-Done.states c.in-Done.letters c.in-Done.finals c.in-Done.x c.in-Done.y c.read-file.new.rows
-file c = record { bytes = as-bytes c.type_inv.bytes; size = c.requires.rows_fit; done = c.in-Done.ensures }
+file c = record { bytes = as_bytes c.type_inv.bytes; size = c.requires.rows_fit; done = c.in-Done.ensures }
 
 counted : (c : goal.In-Done) → c.in-Done.states * c.in-Done.letters ≤ length c.read-file.new.rows
 counted c = omega (arith, few_rows (file c), c.read-file.auto.rows)
@@ -32,6 +32,6 @@ returns-in-Refused c =
 pub returns-in-Done : goal.returns-in-Done
 returns-in-Done c =
     accepted_answers
-    (record { bytes = as-bytes c.type_inv.bytes; size = c.requires.rows_fit; done = c.in-Done.ensures })
+    (record { bytes = as_bytes c.type_inv.bytes; size = c.requires.rows_fit; done = c.in-Done.ensures })
     c.requires.roomy
     c.compare-answer.ensures

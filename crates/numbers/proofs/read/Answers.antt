@@ -22,18 +22,18 @@ returns-then-b-lt128 c =
     going_last c.loop-place.invariant c.if-bytes-place.false c.wide-b.ensures (sym c.byte_test-verdict.ensures ∙ c.in_default.is) c.if-b-lt128.true
 
 -- what is read is a byte
-a-byte : (c : goal.Else-b-lt128) → c.wide-b.result < 256
-a-byte c = omega (arith, c.type_inv.bytes c.loop-place.place)
+a_byte : (c : goal.Else-b-lt128) → c.wide-b.result < 256
+a_byte c = omega (arith, c.type_inv.bytes c.loop-place.place)
 
 pub overflow_mul-value : goal.overflow_mul-value
-overflow_mul-value c = omega (arith, more_fits c.loop-place.invariant (sym c.byte_test-verdict.ensures ∙ c.in_default.is) c.if-b-lt128.false (a-byte c))
+overflow_mul-value c = omega (arith, more_fits c.loop-place.invariant (sym c.byte_test-verdict.ensures ∙ c.in_default.is) c.if-b-lt128.false (a_byte c))
 
 pub overflow_add-value : goal.overflow_add-value
-overflow_add-value c = omega (arith, more_fits c.loop-place.invariant (sym c.byte_test-verdict.ensures ∙ c.in_default.is) c.if-b-lt128.false (a-byte c))
+overflow_add-value c = omega (arith, more_fits c.loop-place.invariant (sym c.byte_test-verdict.ensures ∙ c.in_default.is) c.if-b-lt128.false (a_byte c))
 
 pub overflow_mul-weight : goal.overflow_mul-weight
 overflow_mul-weight c = omega (arith, weight_fits c.loop-place.invariant (sym c.byte_test-verdict.ensures ∙ c.in_default.is) c.if-b-lt128.false)
 
 pub loop-place-preserved : goal.loop-place-preserved
 loop-place-preserved c =
-    going_more c.loop-place.invariant c.if-bytes-place.false c.wide-b.ensures (sym c.byte_test-verdict.ensures ∙ c.in_default.is) c.if-b-lt128.false (a-byte c)
+    going_more c.loop-place.invariant c.if-bytes-place.false c.wide-b.ensures (sym c.byte_test-verdict.ensures ∙ c.in_default.is) c.if-b-lt128.false (a_byte c)

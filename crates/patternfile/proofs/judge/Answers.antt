@@ -28,30 +28,30 @@ returns-then-room-count c =
     stop_room c.args.room c.args.bytes.now c.index-states.result c.index-letters.result sized c.product-count.ensures c.if-room-count.true
 
 -- n and k are read, and the buffer has room
-at-finals : (c : Else-room-count)
+at_finals : (c : Else-room-count)
     → Reached (pattern_format c.args.room) c.args.bytes.now (c.index-states.result ∷ c.index-letters.result ∷ []) (sets_then c.index-states.result c.index-letters.result ended)
     c.in-Value-k_read.at_finals
-at-finals c =
+at_finals c =
     let sized =
     to_room c.args.room c.args.bytes.now c.read_size-n_read.ensures c.in-Value.is c.read_size-k_read.ensures c.in-Value-k_read.is c.index-states.ensures c.index-letters.ensures in
     to_finals c.args.room c.args.bytes.now c.index-states.result c.index-letters.result sized c.product-count.ensures c.if-room-count.false
 
 pub returns-in_default-finals_read : goal.returns-in_default-finals_read
 returns-in_default-finals_read c =
-    let finals = at-finals (goal.at.returns-in_default-finals_read c).Else-room-count in
+    let finals = at_finals (goal.at.returns-in_default-finals_read c).Else-room-count in
     goes_up c.args.room c.args.bytes.now c.stopped-in_default-finals_read.ensures c.in_default-finals_read.is
     (stopped_item finals c.read_set-finals_read.ensures c.in_default-finals_read.is)
 
 pub returns-in_default-rows_passed : goal.returns-in_default-rows_passed
 returns-in_default-rows_passed c =
-    let finals = at-finals (goal.at.returns-in_default-rows_passed c).Else-room-count in
+    let finals = at_finals (goal.at.returns-in_default-rows_passed c).Else-room-count in
     let rows = reached_item finals c.read_set-finals_read.ensures c.in-Value-finals_read.is in
     goes_up c.args.room c.args.bytes.now c.stopped-in_default-rows_passed.ensures c.in_default-rows_passed.is
     (stop_rows c.args.room c.args.bytes.now c.index-states.result c.index-letters.result rows c.product-count.ensures c.pass_sets-rows_passed.ensures c.in_default-rows_passed.is)
 
 pub returns-in_default-x_read : goal.returns-in_default-x_read
 returns-in_default-x_read c =
-    let finals = at-finals (goal.at.returns-in_default-x_read c).Else-room-count in
+    let finals = at_finals (goal.at.returns-in_default-x_read c).Else-room-count in
     let rows = reached_item finals c.read_set-finals_read.ensures c.in-Value-finals_read.is in
     let x =
     to_x c.args.room c.args.bytes.now c.index-states.result c.index-letters.result rows c.product-count.ensures c.pass_sets-rows_passed.ensures c.in-Value-rows_passed.is in
@@ -59,7 +59,7 @@ returns-in_default-x_read c =
 
 pub returns-in_default-y_read : goal.returns-in_default-y_read
 returns-in_default-y_read c =
-    let finals = at-finals (goal.at.returns-in_default-y_read c).Else-room-count in
+    let finals = at_finals (goal.at.returns-in_default-y_read c).Else-room-count in
     let rows = reached_item finals c.read_set-finals_read.ensures c.in-Value-finals_read.is in
     let x =
     to_x c.args.room c.args.bytes.now c.index-states.result c.index-letters.result rows c.product-count.ensures c.pass_sets-rows_passed.ensures c.in-Value-rows_passed.is in
@@ -68,7 +68,7 @@ returns-in_default-y_read c =
 
 pub returns : goal.returns
 returns c =
-    let finals = at-finals (goal.at.returns c).Else-room-count in
+    let finals = at_finals (goal.at.returns c).Else-room-count in
     let rows = reached_item finals c.read_set-finals_read.ensures c.in-Value-finals_read.is in
     let x =
     to_x c.args.room c.args.bytes.now c.index-states.result c.index-letters.result rows c.product-count.ensures c.pass_sets-rows_passed.ensures c.in-Value-rows_passed.is in
