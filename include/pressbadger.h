@@ -83,7 +83,7 @@ enum {
     PB_CUT = 20,        /* the file ends before or within a number */
     PB_PADDED = 21,     /* a number ends with a needless group of zero: what wrote the file pads */
     PB_TAIL = 22,       /* bytes after the last number */
-    PB_TOO_BIG = 23,    /* a number has a tenth byte other than 00 or 01: it is 2^64 or more */
+    PB_TOO_BIG = 23,    /* a number has a tenth byte other than 00 or 01: it is 2^64 or more, or has no end in ten bytes */
     PB_SYNTAX = 30,     /* a name or a byte that no right text has there, or an unfinished text */
     PB_TOO_MANY = 31,   /* no state is left for a name or for a start */
     PB_TOO_DEEP = 32    /* a parenthesis opens, and 32 are open */

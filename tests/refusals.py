@@ -5,12 +5,14 @@ An edit shows something only if the prover refuses it at a fact. It is refused a
 not fit together, and such a refusal says nothing of the mistake that the edit is named after; or only a limit of the prover is met.
 `rt ci` prints of each edit the first error that is more than a missing name. It is
 
-fact     a fact of the code that is not shown, or a proof of one fact where another is asked for
+fact     a fact of the code that is not proved, a tactic that does not close its goal, or a proof of one fact where another is asked for:
+         two types, sides or indices that are not equal
 name     nothing but names that the edit took away
 limit    nothing but a limit of the prover
-shape    the text does not fit together: a field, an argument or a clause too many or too few
+shape    the text does not fit together: a field, an argument or a clause too many or too few, data of another type
 bad      the edit cannot be applied, compiled or read
 untried  there is no line of it
+other    none of these, or no error is told
 
 All but the first fail. tests/refusals.txt lists the exceptions, as `crate/label: reason`. One that is not needed fails too. With -v
 each edit is listed.
@@ -23,6 +25,13 @@ import sys
 ROOT = pathlib.Path(__file__).resolve().parent.parent
 LINE = re.compile(r"^rt: must-fail (\w+/\w+)\.edit: (.*)$", re.M)
 SHAPE = re.compile(r"has no field|this tuple has|is applied to an argument but|does not parse|this clause |write the clause|too many|too few")
+FACT = re.compile(
+    r"it is not proved that |: error: `[^`]+`: (?:`omega`: .*does not follow from what it read|`rw`: no occurrence of |`simp`: no equation of "
+    r"|give a proof of that as the last argument, |list the missing equation|(?:as printed|computed as far as they go), the two (?:types|sides|indices) "
+    r"|computed as a goal is, one side reads `|expected type `|this `[^`]+` lands at index `)"
+)
+# what the check of a proof asks for where a type of data stands and no fact
+DATA = re.compile(r"expected type `(?:[\w.]+\.)?(?:ℕ|ℤ|Bool|List|String|Char|Type|Option)\b[^≡≤<→]*`")
 
 
 def kind(said):
@@ -33,7 +42,9 @@ def kind(said):
         return "name"
     if "(only by a limit" in said:
         return "limit"
-    return "shape" if SHAPE.search(said) else "fact"
+    if SHAPE.search(said) or DATA.search(said):
+        return "shape"
+    return "fact" if FACT.search(said) else "other"
 
 
 def exceptions():

@@ -31,7 +31,7 @@ pub enum Refusal {
     Padded = 21,
     /// There are bytes after the file's last number.
     Tail = 22,
-    /// A number of the file has a tenth byte other than 00 or 01: it is 2^64 or more.
+    /// A number of the file has a tenth byte other than 00 or 01: it is 2^64 or more, or has no end in ten bytes.
     TooBig = 23,
     /// No right text has that name or byte there, or the text is unfinished.
     Syntax = 30,

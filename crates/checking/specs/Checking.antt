@@ -1,58 +1,58 @@
 -- What `check` answers and prints (the scope, §10), for all bytes that it can take in, and what it leaves in all that it is lent.
---   mostRooms               the buffers of who asks: no file finds too little room in them
---   Offers input o          the bytes taken in are the evidence file of the offer o, and of no other (`one-offer`); it is a valid one (`offers-valid`)
---   Refuses input w place   reading them gives the refusal w at a place; every input is one or the other (`offers-or-refuses`), and none is both
+--   most_rooms              the buffers of who asks: no file finds too little room in them
+--   Offers input o          the bytes taken in are the evidence file of the offer o, and of no other (`one_offer`); it is a valid one (`offers_valid`)
+--   Refuses input w place   reading them gives the refusal w at a place; every input is one or the other (`offers_or_refuses`), and none is both
 --   Suffices old            the buffers lent are as long
 --   Answers input old asked new
---                           what is answered, and what the buffers then hold: nothing is left open (`answers-determined`)
---   Prints input text       the line printed: one text for each input (`prints-determined`), which no byte from 40,995 on changes
---                           (`cap-prints-the-same`); PROVED is printed only where the languages are equal (`proved-means-same`)
+--                           what is answered, and what the buffers then hold: nothing is left open (`answers_determined`)
+--   Prints input text       the line printed: one text for each input (`prints_determined`), which no byte from 40,995 on changes
+--                           (`cap_prints_the_same`); PROVED is printed only where the languages are equal (`proved_means_same`)
 --   longest                 no text is longer
 --   Reported input old r new
---                           the text stands at the start of the byte buffer, r bytes, and the rest is as it was (`reports-determined`)
+--                           the text stands at the start of the byte buffer, r bytes, and the rest is as it was (`reports_determined`)
 --   Leaves                  what all else that is lent holds then
 use Rattle.std.specs.Prelude.{◌≡◌, List, [], ◌∷◌, ℕ, ◌*◌, ◌≤◌, length, take}
 use Rattle.lent.specs.Lent.{Put}
-use Rattle.sets.specs.Rooms.{maxRoom}
-use Rattle.numbers.specs.Format.{refused, fileReading}
+use Rattle.sets.specs.Rooms.{max_room}
+use Rattle.numbers.specs.Format.{refused, file_reading}
 use Rattle.evidence.specs.Evidence.{Offer, Checked}
 use Rattle.evidence.specs.declared.Answer.{Answer}
 use Rattle.evidence.specs.declared.Answer.TheVariants.{Proved, NotProved}
-use Rattle.evidencefile.specs.EvidenceFile.{Rooms, Lists, layOffer, evidenceFormat}
+use Rattle.evidencefile.specs.EvidenceFile.{Rooms, Lists, lay_offer, evidence_format}
 use Rattle.evidencefile.specs.Reader.{FileOf}
-use Rattle.text.specs.Text.{word, decimal, line, refusalText}
+use Rattle.text.specs.Text.{word, decimal, line, refusal_text}
 use Rattle.checking.specs.declared.Asked.{Asked}
 
 -- a row for each of 64 states and 32 letters, and sides for as many pairs as a list may have
-abbrev pub mostRooms : Rooms
-mostRooms = record { rows = 64 * 32; lefts = maxRoom; rights = maxRoom }
+abbrev pub most_rooms : Rooms
+most_rooms = record { rows = 64 * 32; lefts = max_room; rights = max_room }
 
 abbrev pub Offers : List ℕ → Offer → Type 0
-Offers input o = FileOf mostRooms input o
+Offers input o = FileOf most_rooms input o
 
 abbrev pub Refuses : List ℕ → ℕ → ℕ → Type 0
-Refuses input number place = fileReading (evidenceFormat mostRooms) input ≡ refused number place
+Refuses input number place = file_reading (evidence_format most_rooms) input ≡ refused number place
 
 pub record Suffices (old : Lists) : Type 0 where
-  pub rows-are : length old.rows ≡ 64 * 32
-  pub lefts-are : length old.lefts ≡ maxRoom
-  pub rights-are : length old.rights ≡ maxRoom
+  pub rows_are : length old.rows ≡ 64 * 32
+  pub lefts_are : length old.lefts ≡ max_room
+  pub rights_are : length old.rights ≡ max_room
 
 -- a refusal changes nothing; else the rows and the sides lie over what was there
 pub data Answers (input : List ℕ) (old : Lists) : Asked → Lists → Type 0 where
   refuses : {number place : ℕ} → Refuses input number place → Answers input old (Asked.Refused number place) old
-  answers : {o : Offer} {a : Answer} → Offers input o → Checked o a → Answers input old (Asked.Answered a) (layOffer o old)
+  answers : {o : Offer} {a : Answer} → Offers input o → Checked o a → Answers input old (Asked.Answered a) (lay_offer o old)
 
-unfoldable pub provedText : List ℕ
-provedText = line (word "PROVED" ∷ [])
+unfoldable pub proved_text : List ℕ
+proved_text = line (word "PROVED" ∷ [])
 
-unfoldable pub notProvedText : ℕ → List ℕ
-notProvedText place = line (word "NOT-PROVED" ∷ decimal place ∷ [])
+unfoldable pub not_proved_text : ℕ → List ℕ
+not_proved_text place = line (word "NOT-PROVED" ∷ decimal place ∷ [])
 
 pub data Prints (input : List ℕ) : List ℕ → Type 0 where
-  refuses : {number place : ℕ} → Refuses input number place → Prints input (refusalText number place)
-  proved : {o : Offer} → Offers input o → Checked o Proved → Prints input provedText
-  not-proved : {o : Offer} {place : ℕ} → Offers input o → Checked o (NotProved place) → Prints input (notProvedText place)
+  refuses : {number place : ℕ} → Refuses input number place → Prints input (refusal_text number place)
+  proved : {o : Offer} → Offers input o → Checked o Proved → Prints input proved_text
+  not_proved : {o : Offer} {place : ℕ} → Offers input o → Checked o (NotProved place) → Prints input (not_proved_text place)
 
 -- REFUSED and two numbers of at most 20 digits
 abbrev pub longest : ℕ

@@ -1,12 +1,12 @@
 -- What only the inner functions cite.
---   answerText answer   what is printed of the check's answer
-use Rattle.std.specs.Prelude.{List, [], ◌∷◌, ℕ}
+--   answer_text answer   what is printed of the check's answer
+use Rattle.std.specs.Prelude.{List, ℕ}
 use Rattle.evidence.specs.declared.Answer.{Answer}
 use Rattle.evidence.specs.declared.Answer.TheVariants.{Proved, NotProved, Refused}
-use Rattle.text.specs.Text.{refusalText}
-use Rattle.checking.specs.Checking.{provedText, notProvedText}
+use Rattle.text.specs.Text.{refusal_text}
+use Rattle.checking.specs.Checking.{proved_text, not_proved_text}
 
-abbrev pub answerText : Answer → List ℕ
-answerText Proved = provedText
-answerText (NotProved place) = notProvedText place
-answerText (Refused number) = refusalText number 0
+abbrev pub answer_text : Answer → List ℕ
+answer_text Proved = proved_text
+answer_text (NotProved place) = not_proved_text place
+answer_text (Refused number) = refusal_text number 0

@@ -3,9 +3,9 @@
 
 ghost use Rattle.std.specs.Prelude.{◌≡◌, ◌≤◌, length};
 ghost use Rattle.lent.specs.Lent.{Put};
-ghost use Rattle.evidencefile.specs.EvidenceFile.{listsOf};
+ghost use Rattle.evidencefile.specs.EvidenceFile.{lists_of};
 ghost use Rattle.checking.specs.Checking.{Suffices, Answers, longest, Reported, Leaves};
-ghost use Rattle.checking.specs.Inner.{answerText};
+ghost use Rattle.checking.specs.Inner.{answer_text};
 
 use evidence::Answer;
 use evidencefile::EvidenceRead;
@@ -20,8 +20,8 @@ pub enum Asked {
 
 // Reads the file and checks its pairs; a file that was read is never refused by the check.
 pub fn ask(bytes: &[u8], rows: &mut [u64], lefts: &mut [u64], rights: &mut [u64]) -> Asked
-    requires { Suffices (listsOf rows.old lefts.old rights.old) }
-    ensures { Answers bytes.now (listsOf rows.old lefts.old rights.old) result (listsOf rows.new lefts.new rights.new) }
+    requires { Suffices (lists_of rows.old lefts.old rights.old) }
+    ensures { Answers bytes.now (lists_of rows.old lefts.old rights.old) result (lists_of rows.new lefts.new rights.new) }
 {
     let file = evidencefile::read(bytes, rows, lefts, rights);
     match file {
@@ -53,7 +53,7 @@ pub fn ask(bytes: &[u8], rows: &mut [u64], lefts: &mut [u64], rights: &mut [u64]
 // The line of the check's answer.
 fn put_answer(out: &mut [u8], answer: Answer) -> usize
     requires { longest ≤ length out.old }
-    ensures { Put out.old 0 (answerText answer) result out.new }
+    ensures { Put out.old 0 (answer_text answer) result out.new }
 {
     match answer {
         Answer::Proved => put_head(out, 0, b"PROVED", &[]),
@@ -73,10 +73,10 @@ pub fn report(
     rights: &mut [u64],
     out: &mut [u8],
 ) -> usize
-    requires lends { Suffices (listsOf rows.old lefts.old rights.old) }
+    requires lends { Suffices (lists_of rows.old lefts.old rights.old) }
     requires room_in_bounds { longest ≤ length out.old }
     ensures reports { Reported bytes.now out.old result out.new }
-    ensures leaves { Leaves bytes.now (listsOf rows.old lefts.old rights.old) (listsOf rows.new lefts.new rights.new) }
+    ensures leaves { Leaves bytes.now (lists_of rows.old lefts.old rights.old) (lists_of rows.new lefts.new rights.new) }
 {
     let asked = ask(bytes, rows, lefts, rights);
     match asked {

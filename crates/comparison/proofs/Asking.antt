@@ -9,130 +9,130 @@ use lib.Dec.{leb}
 use borrow.Author.Tests.{leb-true, le-leb}
 use Rattle.verdict.specs.declared.Verdict.{Verdict}
 use Rattle.verdict.specs.declared.Verdict.TheVariants.{Fine, Against}
-use Rattle.verdict.specs.Tests.{need, inOrder, each, Among}
+use Rattle.verdict.specs.Tests.{need, in_order, each, Among}
 use Rattle.verdict.specs.Lines.{NoneApplies, GoesBy}
 use Rattle.verdict.specs.Lines.Lines.{none, line}
-use Rattle.verdict.proofs.Ordered.{need-holds, need-fine, order-fine, order-stop, order-next, order-last}
-use Rattle.verdict.proofs.Numbered.{among-need, among-each, among-from}
-use Rattle.verdict.proofs.Lines.{one-line, no-lines, lines-then, same-number, lines-among}
-use Rattle.sets.specs.Rooms.{maxRoom}
-use Rattle.pattern.specs.Tests.{setTest, shapeTest, masksTest}
-use Rattle.pattern.specs.Refusals.{shapeLines}
-use Rattle.pattern.proofs.Refusals.{set-line, masks-line, shape-lines}
+use Rattle.verdict.proofs.Ordered.{need_holds, need_fine, order_fine, order_stop, order_next, order_last}
+use Rattle.verdict.proofs.Numbered.{among_need, among_each, among_from}
+use Rattle.verdict.proofs.Lines.{one_line, no_lines, lines_then, same_number, lines_among}
+use Rattle.sets.specs.Rooms.{max_room}
+use Rattle.pattern.specs.Tests.{set_test, shape_test, masks_test}
+use Rattle.pattern.specs.Refusals.{shape_lines}
+use Rattle.pattern.proofs.Refusals.{set_line, masks_line, shape_lines_lem}
 use Rattle.walk.specs.Walk.{Question}
 use Rattle.walk.specs.Columns.{lengths}
-use Rattle.walk.proofs.Columns.{fit-at, fit-by, in-lengths, of-lengths}
-use Rattle.comparison.specs.Answers.{Lent, Call, roomTest, compareTest}
-use Rattle.comparison.specs.Meaning.{Roomy, Comparable, SidesGood, compareLines}
+use Rattle.walk.proofs.Columns.{fit_at, fit_by, in_lengths, of_lengths}
+use Rattle.comparison.specs.Answers.{Lent, Call, room_test, compare_test}
+use Rattle.comparison.specs.Meaning.{Roomy, Comparable, SidesGood, compare_lines}
 
 -- ---- the order: 10 and 11, then 13, then 12
 
 module _ (c : Call) where
-  pub shape-decides : {number : ℕ} → shapeTest c.question.pattern ≡ Against number → compareTest c ≡ shapeTest c.question.pattern
-  unfolding compareTest
-  shape-decides e = order-stop _ _ e
+  pub shape_decides : {number : ℕ} → shape_test c.question.pattern ≡ Against number → compare_test c ≡ shape_test c.question.pattern
+  unfolding compare_test
+  shape_decides e = order_stop _ _ e
 
-  pub room-decides : {number : ℕ} → shapeTest c.question.pattern ≡ Fine → roomTest c.room c.lent ≡ Against number
-      → compareTest c ≡ roomTest c.room c.lent
-  unfolding compareTest
-  room-decides shape e = order-next _ _ shape ∙ order-stop _ _ e
+  pub room_decides : {number : ℕ} → shape_test c.question.pattern ≡ Fine → room_test c.room c.lent ≡ Against number
+      → compare_test c ≡ room_test c.room c.lent
+  unfolding compare_test
+  room_decides shape e = order_next _ _ shape ∙ order_stop _ _ e
 
-  pub masks-decide : {number : ℕ} → shapeTest c.question.pattern ≡ Fine → roomTest c.room c.lent ≡ Fine
-      → masksTest c.question.pattern ≡ Against number → compareTest c ≡ masksTest c.question.pattern
-  unfolding compareTest
-  masks-decide shape room e = order-next _ _ shape ∙ order-next _ _ room ∙ order-stop _ _ e
+  pub masks_decide : {number : ℕ} → shape_test c.question.pattern ≡ Fine → room_test c.room c.lent ≡ Fine
+      → masks_test c.question.pattern ≡ Against number → compare_test c ≡ masks_test c.question.pattern
+  unfolding compare_test
+  masks_decide shape room e = order_next _ _ shape ∙ order_next _ _ room ∙ order_stop _ _ e
 
-  pub left-decides : {number : ℕ} → shapeTest c.question.pattern ≡ Fine → roomTest c.room c.lent ≡ Fine → masksTest c.question.pattern ≡ Fine
-      → setTest c.question.pattern.states c.question.left ≡ Against number
-      → compareTest c ≡ setTest c.question.pattern.states c.question.left
-  unfolding compareTest
-  left-decides shape room masks e = order-next _ _ shape ∙ order-next _ _ room ∙ order-next _ _ masks ∙ order-stop _ _ e
+  pub left_decides : {number : ℕ} → shape_test c.question.pattern ≡ Fine → room_test c.room c.lent ≡ Fine → masks_test c.question.pattern ≡ Fine
+      → set_test c.question.pattern.states c.question.left ≡ Against number
+      → compare_test c ≡ set_test c.question.pattern.states c.question.left
+  unfolding compare_test
+  left_decides shape room masks e = order_next _ _ shape ∙ order_next _ _ room ∙ order_next _ _ masks ∙ order_stop _ _ e
 
-  pub right-decides : shapeTest c.question.pattern ≡ Fine → roomTest c.room c.lent ≡ Fine → masksTest c.question.pattern ≡ Fine
-      → setTest c.question.pattern.states c.question.left ≡ Fine
-      → compareTest c ≡ setTest c.question.pattern.states c.question.right
-  unfolding compareTest
-  right-decides shape room masks left = order-next _ _ shape ∙ order-next _ _ room ∙ order-next _ _ masks ∙ order-next _ _ left ∙ order-last _
+  pub right_decides : shape_test c.question.pattern ≡ Fine → room_test c.room c.lent ≡ Fine → masks_test c.question.pattern ≡ Fine
+      → set_test c.question.pattern.states c.question.left ≡ Fine
+      → compare_test c ≡ set_test c.question.pattern.states c.question.right
+  unfolding compare_test
+  right_decides shape room masks left = order_next _ _ shape ∙ order_next _ _ room ∙ order_next _ _ masks ∙ order_next _ _ left ∙ order_last _
 
 -- ---- the room
 
 -- a test of each value has nothing against it exactly where it has nothing against any of them
-each-in : (test : ℕ → Verdict) {v : ℕ} {values : List ℕ} → each test values ≡ Fine → Memᴰ v values → test v ≡ Fine
+each_in : (test : ℕ → Verdict) {v : ℕ} {values : List ℕ} → each test values ≡ Fine → Memᴰ v values → test v ≡ Fine
 unfolding each
-each-in test e (Memᴰ.head z) = rw z ((order-fine _).0 e).0
-each-in test {values = v ∷ values} e (Memᴰ.tail m) = each-in test ((order-fine (map test values)).1 ((order-fine _).0 e).1) m
+each_in test e (Memᴰ.head z) = rw z ((order_fine _).0 e).0
+each_in test {values = v ∷ values} e (Memᴰ.tail m) = each_in test ((order_fine (map test values)).1 ((order_fine _).0 e).1) m
 
-each-all : (test : ℕ → Verdict) (values : List ℕ) → ((v : ℕ) → Memᴰ v values → test v ≡ Fine) → each test values ≡ Fine
-unfolding each inOrder
-each-all test [] f = refl
-each-all test (v ∷ values) f = order-next (test v) (map test values) (f v (Memᴰ.head refl)) ∙ each-all test values (λ u m. f u (Memᴰ.tail m))
+each_all : (test : ℕ → Verdict) (values : List ℕ) → ((v : ℕ) → Memᴰ v values → test v ≡ Fine) → each test values ≡ Fine
+unfolding each in_order
+each_all test [] f = refl
+each_all test (v ∷ values) f = order_next (test v) (map test values) (f v (Memᴰ.head refl)) ∙ each_all test values (λ u m. f u (Memᴰ.tail m))
 
-bound-fine : (room most : ℕ) → (need (leb room most) 13 ≡ Fine) ↔ (room ≤ most)
-bound-fine room most = (λ e. leb-true _ _ (need-fine _ 13 e), λ h. need-holds _ 13 (le-leb _ _ h))
+bound_fine : (room most : ℕ) → (need (leb room most) 13 ≡ Fine) ↔ (room ≤ most)
+bound_fine room most = (λ e. leb-true _ _ (need_fine _ 13 e), λ h. need_holds _ 13 (le-leb _ _ h))
 
-pub room-fine : (room : ℕ) (lent : Lent) → (roomTest room lent ≡ Fine) ↔ Roomy room lent
-unfolding roomTest
-room-fine room lent = (to, fro)
+pub room_fine : (room : ℕ) (lent : Lent) → (room_test room lent ≡ Fine) ↔ Roomy room lent
+unfolding room_test
+room_fine room lent = (to, fro)
   where
     bounds : List ℕ
-    bounds = maxRoom ∷ length lent.sequence ∷ lengths lent.columns
+    bounds = max_room ∷ length lent.sequence ∷ lengths lent.columns
 
-    holds : {most : ℕ} → roomTest room lent ≡ Fine → Memᴰ most bounds → room ≤ most
-    holds e m = (bound-fine room _).0 (each-in _ e m)
+    holds : {most : ℕ} → room_test room lent ≡ Fine → Memᴰ most bounds → room ≤ most
+    holds e m = (bound_fine room _).0 (each_in _ e m)
 
-    to : roomTest room lent ≡ Fine → Roomy room lent
+    to : room_test room lent ≡ Fine → Roomy room lent
     to e =
         record {
           most = holds e (Memᴰ.head refl);
-          columns-fit = fit-by (λ x. holds e (Memᴰ.tail (Memᴰ.tail (in-lengths lent.columns x))));
-          sequence-fits = holds e (Memᴰ.tail (Memᴰ.head refl));
+          columns_fit = fit_by (λ x. holds e (Memᴰ.tail (Memᴰ.tail (in_lengths lent.columns x))));
+          sequence_fits = holds e (Memᴰ.tail (Memᴰ.head refl));
         }
 
     within : Roomy room lent → {most : ℕ} → Memᴰ most bounds → room ≤ most
     within r (Memᴰ.head e) = rw e r.most
-    within r (Memᴰ.tail (Memᴰ.head e)) = rw e r.sequence-fits
-    within r (Memᴰ.tail (Memᴰ.tail m)) = let (x, e) = of-lengths lent.columns m in rw e (fit-at r.columns-fit x)
+    within r (Memᴰ.tail (Memᴰ.head e)) = rw e r.sequence_fits
+    within r (Memᴰ.tail (Memᴰ.tail m)) = let (x, e) = of_lengths lent.columns m in rw e (fit_at r.columns_fit x)
 
-    fro : Roomy room lent → roomTest room lent ≡ Fine
-    fro r = each-all _ _ (λ most m. (bound-fine room most).1 (within r m))
+    fro : Roomy room lent → room_test room lent ≡ Fine
+    fro r = each_all _ _ (λ most m. (bound_fine room most).1 (within r m))
 
 -- ---- exactly where a line applies
 
-room-line : (room : ℕ) (lent : Lent) → GoesBy (line 13 (Roomy room lent) none) (roomTest room lent)
-unfolding roomTest
-room-line room lent = one-line among (room-fine room lent)
+room_line : (room : ℕ) (lent : Lent) → GoesBy (line 13 (Roomy room lent) none) (room_test room lent)
+unfolding room_test
+room_line room lent = one_line among (room_fine room lent)
   where
-    among : Among (13 ∷ []) (roomTest room lent)
-    among = among-each (13 ∷ []) _ (λ most. among-need (13 ∷ []) _ 13 (Memᴰ.head refl)) _
+    among : Among (13 ∷ []) (room_test room lent)
+    among = among_each (13 ∷ []) _ (λ most. among_need (13 ∷ []) _ 13 (Memᴰ.head refl)) _
 
-sides-line : (Q : Question) → GoesBy (line 12 (SidesGood Q) none) (inOrder (setTest Q.pattern.states Q.left ∷ setTest Q.pattern.states Q.right ∷ []))
-sides-line Q = same-number none 12 none (λ p. p, λ p. p) (lines-then _ (set-line _ _) (lines-then _ (set-line _ _) no-lines))
+sides_line : (Q : Question) → GoesBy (line 12 (SidesGood Q) none) (in_order (set_test Q.pattern.states Q.left ∷ set_test Q.pattern.states Q.right ∷ []))
+sides_line Q = same_number none 12 none (λ p. p, λ p. p) (lines_then _ (set_line _ _) (lines_then _ (set_line _ _) no_lines))
 
 module _ (c : Call) where
   -- a call is refused exactly where a line applies, by the first
-  pub compare-lines : GoesBy (compareLines c) (compareTest c)
-  unfolding compareTest
-  compare-lines =
-      same-number (shapeLines c.question.pattern (line 13 (Roomy c.room c.lent) none)) 12 none (λ p. p, λ p. p)
-      (lines-then _ (shape-lines _) (lines-then _ (room-line _ _) (lines-then _ (masks-line _) (sides-line c.question))))
+  pub compare_lines_lem : GoesBy (compare_lines c) (compare_test c)
+  unfolding compare_test
+  compare_lines_lem =
+      same_number (shape_lines c.question.pattern (line 13 (Roomy c.room c.lent) none)) 12 none (λ p. p, λ p. p)
+      (lines_then _ (shape_lines_lem _) (lines_then _ (room_line _ _) (lines_then _ (masks_line _) (sides_line c.question))))
 
-  pub compare-among : Among (10 ∷ 11 ∷ 13 ∷ 12 ∷ []) (compareTest c)
-  compare-among = lines-among compare-lines
+  pub compare_among : Among (10 ∷ 11 ∷ 13 ∷ 12 ∷ []) (compare_test c)
+  compare_among = lines_among compare_lines_lem
 
-  pub refusal-number : {number : ℕ} → compareTest c ≡ Against number → 10 ≤ number
-  refusal-number e = among-from 10 refl compare-among e
+  pub refusal_number : {number : ℕ} → compare_test c ≡ Against number → 10 ≤ number
+  refusal_number e = among_from 10 refl compare_among e
 
   -- and not where the question is valid and the room is there
-  pub compare-fine : (compareTest c ≡ Fine) ↔ Comparable c
-  compare-fine = (λ e. to (compare-lines.fine.0 e), λ p. compare-lines.fine.1 (fro p))
+  pub compare_fine : (compare_test c ≡ Fine) ↔ Comparable c
+  compare_fine = (λ e. to (compare_lines_lem.fine.0 e), λ p. compare_lines_lem.fine.1 (fro p))
     where
-      to : NoneApplies (compareLines c) → Comparable c
+      to : NoneApplies (compare_lines c) → Comparable c
       to (sized, (tabled, (roomy, (((finals, rows), (left, right)), _)))) = (
-        record { valid = record { sized = sized; tabled = tabled; finals-good = finals; rows-good = rows }; left-good = left; right-good = right },
+        record { valid = record { sized = sized; tabled = tabled; finals_good = finals; rows_good = rows }; left_good = left; right_good = right },
         roomy,
       )
 
-      fro : Comparable c → NoneApplies (compareLines c)
+      fro : Comparable c → NoneApplies (compare_lines c)
       fro (p, roomy) =
           let v = p.valid in
-          (v.sized, (v.tabled, (roomy, (((v.finals-good, v.rows-good), (p.left-good, p.right-good)), tt))))
+          (v.sized, (v.tabled, (roomy, (((v.finals_good, v.rows_good), (p.left_good, p.right_good)), tt))))

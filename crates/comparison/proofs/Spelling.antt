@@ -9,7 +9,7 @@ use lib.Seq.{take-suc, set_at, length-take-le, set_split, drop_at}
 use Rattle.lent.specs.Lent.{lay}
 use Rattle.walk.specs.Walk.{Path}
 use Rattle.comparison.specs.Inner.{Spelt}
-use Rattle.walk.proofs.Paths.{path-unique, further-of, ended-of}
+use Rattle.walk.proofs.Paths.{path_unique, further_of, ended_of}
 
 -- ---- the first loop: so many letters are passed, and i is where we stand
 
@@ -19,17 +19,17 @@ pub record Climbing (parents letters : List ℕ) (from count i : ℕ) : Type 0 w
   pub total : (w : List ℕ) → Path parents letters from w → length w ≡ length word + count
 
 module _ {parents letters : List ℕ} {from : ℕ} where
-  pub climbing-first : {w : List ℕ} → Path parents letters from w → Climbing parents letters from 0 from
-  climbing-first {w} p = record { word = w; path = p; total = λ v u. ap length (path-unique u p) ∙ omega arith }
+  pub climbing_first : {w : List ℕ} → Path parents letters from w → Climbing parents letters from 0 from
+  climbing_first {w} p = record { word = w; path = p; total = λ v u. ap length (path_unique u p) ∙ omega arith }
 
-  pub climbing-step : {count i i' : ℕ} → Climbing parents letters from count i → (i ≡ 0 → ⊥) → i' ≡ get_or parents i 0
+  pub climbing_step : {count i i' : ℕ} → Climbing parents letters from count i → (i ≡ 0 → ⊥) → i' ≡ get_or parents i 0
       → Climbing parents letters from (count + 1) i'
-  climbing-step {count} {i} c f e =
-      let g = further-of c.path f in
+  climbing_step {count} {i} c f e =
+      let g = further_of c.path f in
       rw e (record { word = g.before; path = g.path; total = λ w p. omega (arith, c.total w p, g.longer) })
 
-  pub climbing-done : {count i : ℕ} → Climbing parents letters from count i → i ≡ 0 → (w : List ℕ) → Path parents letters from w → length w ≡ count
-  climbing-done {count} c e w p = c.total w p ∙ ap (λ (u : List ℕ). length u + count) (ended-of c.path e) ∙ omega arith
+  pub climbing_done : {count i : ℕ} → Climbing parents letters from count i → i ≡ 0 → (w : List ℕ) → Path parents letters from w → length w ≡ count
+  climbing_done {count} c e w p = c.total w p ∙ ap (λ (u : List ℕ). length u + count) (ended_of c.path e) ∙ omega arith
 
 -- ---- the second loop: the letters passed stand from `at` on
 
@@ -52,28 +52,28 @@ put old done m a count l =
     ∙ set_at (take m old) (get_or old m 0) (done ++ drop count old) a m (length-take-le m old (omega arith))
 
 module _ {parents letters : List ℕ} {from count : ℕ} where
-  pub writing-first : {at : ℕ} {old w : List ℕ} → Path parents letters from w → length w ≡ count → at ≡ count → count < length old
+  pub writing_first : {at : ℕ} {old w : List ℕ} → Path parents letters from w → length w ≡ count → at ≡ count → count < length old
       → Writing parents letters from count old old at from
-  writing-first {at} {old} {w} p e z l =
+  writing_first {at} {old} {w} p e z l =
       rw z (record {
         word = w;
         done = [];
         path = p;
         place = sym e;
         parts = omega arith;
-        whole = λ v u. path-unique u p ∙ sym (append-nil w);
+        whole = λ v u. path_unique u p ∙ sym (append-nil w);
         below = l;
         content = sym (take-append-drop count old);
         long = refl;
       })
 
-  pub at-positive : {at j : ℕ} {old new : List ℕ} → Writing parents letters from count old new at j → (j ≡ 0 → ⊥) → 1 ≤ at
-  at-positive w f = omega (arith, w.place, (further-of w.path f).longer)
+  pub at_positive : {at j : ℕ} {old new : List ℕ} → Writing parents letters from count old new at j → (j ≡ 0 → ⊥) → 1 ≤ at
+  at_positive w f = omega (arith, w.place, (further_of w.path f).longer)
 
-  pub writing-step : {at at' j j' : ℕ} {old new new' : List ℕ} → Writing parents letters from count old new at j → (j ≡ 0 → ⊥)
+  pub writing_step : {at at' j j' : ℕ} {old new new' : List ℕ} → Writing parents letters from count old new at j → (j ≡ 0 → ⊥)
       → at' ≡ at - 1 → new' ≡ set new at' (get_or letters j 0) → j' ≡ get_or parents j 0 → Writing parents letters from count old new' at' j'
-  writing-step {at} {at'} {j} {old = old} {new} w f e z y =
-      let g = further-of w.path f in
+  writing_step {at} {at'} {j} {old = old} {new} w f e z y =
+      let g = further_of w.path f in
       let a = get_or letters j 0 in
       let up : at ≡ suc at' = omega (arith, w.place, g.longer) in
       rw (y, z) (record {
@@ -88,30 +88,30 @@ module _ {parents letters : List ℕ} {from count : ℕ} where
         long = simp length-set w.long;
       })
 
-  pub writing-done : {at j last r : ℕ} {old new : List ℕ} → Writing parents letters from count (set old count last) new at j → j ≡ 0 → r ≡ count + 1
+  pub writing_done : {at j last r : ℕ} {old new : List ℕ} → Writing parents letters from count (set old count last) new at j → j ≡ 0 → r ≡ count + 1
       → Spelt parents letters from last old new r
   unfolding lay
-  writing-done {at} {j} {last} {r} {old} {new} w e z =
+  writing_done {at} {j} {last} {r} {old} {new} w e z =
       record {
         all = λ u p. (
           z ∙ ap (λ (n : ℕ). n + 1) (sym (len u p)),
-          w.content ∙ ap (λ (n : ℕ). take n (set old count last) ++ (w.done ++ drop count (set old count last))) at-start
+          w.content ∙ ap (λ (n : ℕ). take n (set old count last) ++ (w.done ++ drop count (set old count last))) at_start
               ∙ ap₂ (λ (x y : List ℕ). x ++ y) (sym (word u p)) (tail u p)
               ∙ sym (append_assoc u (last ∷ []) (drop (length (u ++ (last ∷ []))) old)),
         );
       }
     where
       none : w.word ≡ []
-      none = ended-of w.path e
+      none = ended_of w.path e
 
-      at-start : at ≡ 0
-      at-start = w.place ∙ ap length none
+      at_start : at ≡ 0
+      at_start = w.place ∙ ap length none
 
       word : (u : List ℕ) → Path parents letters from u → u ≡ w.done
       word u p = w.whole u p ∙ ap (λ (x : List ℕ). x ++ w.done) none
 
       len : (u : List ℕ) → Path parents letters from u → length u ≡ count
-      len u p = ap length (word u p) ∙ omega (arith, w.parts, at-start)
+      len u p = ap length (word u p) ∙ omega (arith, w.parts, at_start)
 
       l : count < length old
       l = rw length-set at w.below

@@ -4,70 +4,70 @@ use mathlib.Core.Path.{◌≡◌, refl, sym, ◌∙◌}
 use mathlib.Core.Logic.{◌⊎◌, inl, inr}
 use Prim.Native.Nat.{ℕ, zero, suc, ◌≤◌}
 use native.Mathlib.Omega.{arith}
-use Rattle.pattern.proofs.Inclusion.{union-within}
-use Rattle.walk.proofs.Inclusion.{tells-escapes}
+use Rattle.pattern.proofs.Inclusion.{union_within}
+use Rattle.walk.proofs.Inclusion.{tells_escapes}
 use Rattle.comparison.specs.Answers as Comparison
 use Rattle.comparison.specs.Answers.{Lent, Call, Compared}
 use Rattle.comparison.specs.Meaning.{Comparable}
-use Rattle.comparison.specs.Inclusion.{numberOf, inclusionOf, Included}
+use Rattle.comparison.specs.Inclusion.{number_of, inclusion_of, Included}
 use Rattle.comparison.specs.Inclusion.Included.{refuses, walks}
 use Rattle.comparison.specs.InclusionMeaning.{IsRefused, HonestInclusion, QuietInclusion}
 use Rattle.comparison.specs.declared.Answer.{Answer}
 use Rattle.comparison.specs.declared.inclusion.Inclusion.{Inclusion}
-use Rattle.comparison.proofs.Asking.{compare-fine}
-use Rattle.comparison.proofs.CompareHonest.{compare-valid, compare-honest, compare-answers}
-use Rattle.comparison.proofs.Joining.{joinedCall, comparable-joined, lines-joined, included-compared, compared-included, values-joined, refused-joined, number-refused, within-joined, not-within-joined, full-joined}
+use Rattle.comparison.proofs.Asking.{compare_fine}
+use Rattle.comparison.proofs.CompareHonest.{compare_valid, compare_honest, compare_answers}
+use Rattle.comparison.proofs.Joining.{joined_call, comparable_joined, lines_joined, included_compared, compared_included, values_joined, refused_joined, number_refused, within_joined, not_within_joined, full_joined}
 
 -- by what the comparison of X+Y with Y answers
-module _ {c : Call} (b : Answer) {later : Lent} (k : Compared (joinedCall c) b later) where
-  honest : HonestInclusion c (inclusionOf b) later
+module _ {c : Call} (b : Answer) {later : Lent} (k : Compared (joined_call c) b later) where
+  honest : HonestInclusion c (inclusion_of b) later
   honest =
-      let h = compare-honest k in
-      let is = refused-joined b in
-      let asked = comparable-joined c in
-      let values = values-joined b in
+      let h = compare_honest k in
+      let is = refused_joined b in
+      let asked = comparable_joined c in
+      let values = values_joined b in
       record {
-        within = λ z. union-within.0 (h.same ((within-joined b h.high).0 z));
-        all-examined = λ z. rw values (h.all-examined ((within-joined b h.high).0 z));
-        not-within = λ z. rw values (tells-escapes (h.different ((not-within-joined b h.high).0 z)));
+        within = λ z. union_within.0 (h.same ((within_joined b h.high).0 z));
+        all_examined = λ z. rw values (h.all_examined ((within_joined b h.high).0 z));
+        not_within = λ z. rw values (tells_escapes (h.different ((not_within_joined b h.high).0 z)));
         full = (
-          λ z. let (p, g) = h.full.0 ((full-joined b h.high).0 z) in (asked.1 p, g),
-          λ (p, g). (full-joined b h.high).1 (h.full.1 (asked.0 p, g)),
+          λ z. let (p, g) = h.full.0 ((full_joined b h.high).0 z) in (asked.1 p, g),
+          λ (p, g). (full_joined b h.high).1 (h.full.1 (asked.0 p, g)),
         );
-        room-kept = λ z. rw values (h.room-kept ((full-joined b h.high).0 z));
+        room_kept = λ z. rw values (h.room_kept ((full_joined b h.high).0 z));
         refused = (λ i p. h.refused.0 (is.0 i) (asked.0 p), λ f. is.1 (h.refused.1 (λ p. f (asked.1 p))));
-        refused-by = λ w. (
-          λ (i, z). (lines-joined c w).0 ((h.refused-by w).0 (is.0 i, sym (number-refused b (is.0 i)) ∙ z)),
-          λ p. let (i, z) = (h.refused-by w).1 ((lines-joined c w).1 p) in (is.1 i, number-refused b i ∙ z),
+        refused_by = λ w. (
+          λ (i, z). (lines_joined c w).0 ((h.refused_by w).0 (is.0 i, sym (number_refused b (is.0 i)) ∙ z)),
+          λ p. let (i, z) = (h.refused_by w).1 ((lines_joined c w).1 p) in (is.1 i, number_refused b i ∙ z),
         );
-        high = λ i. rw (number-refused b (is.0 i)) (h.high (is.0 i));
-        kept-fits = rw values h.kept-fits;
-        examined-fits = rw values h.examined-fits;
-        length-fits = rw values h.length-fits;
+        high = λ i. rw (number_refused b (is.0 i)) (h.high (is.0 i));
+        kept_fits = rw values h.kept_fits;
+        examined_fits = rw values h.examined_fits;
+        length_fits = rw values h.length_fits;
       }
 
 -- every answer means what it says
-pub within-honest : {c : Call} {a : Inclusion} {later : Lent} → Included c a later → HonestInclusion c a later
-within-honest k = let (b, p, e) = included-compared k in rw e (honest b p)
+pub within_honest : {c : Call} {a : Inclusion} {later : Lent} → Included c a later → HonestInclusion c a later
+within_honest k = let (b, p, e) = included_compared k in rw e (honest b p)
 
 -- a call that is not refused gets 8, 9 or 2
-pub within-valid : {c : Call} {a : Inclusion} {later : Lent} → Comparable c → Included c a later → (numberOf a ≡ 8) ⊎ (numberOf a ≡ 9) ⊎ (numberOf a ≡ 2)
-within-valid {c} {later = later} p k =
-    let (b, q, e) = included-compared k in
-    rw e (pick b q (Comparison.numberOf b) refl (compare-valid ((comparable-joined c).0 p) q))
+pub within_valid : {c : Call} {a : Inclusion} {later : Lent} → Comparable c → Included c a later → (number_of a ≡ 8) ⊎ (number_of a ≡ 9) ⊎ (number_of a ≡ 2)
+within_valid {c} {later = later} p k =
+    let (b, q, e) = included_compared k in
+    rw e (pick b q (Comparison.number_of b) refl (compare_valid ((comparable_joined c).0 p) q))
   where
-    pick : (b : Answer) → Compared (joinedCall c) b later → (n : ℕ) → Comparison.numberOf b ≡ n → n ≤ 2
-        → (numberOf (inclusionOf b) ≡ 8) ⊎ (numberOf (inclusionOf b) ≡ 9) ⊎ (numberOf (inclusionOf b) ≡ 2)
-    pick b q zero z l = inl ((within-joined b (compare-honest q).high).1 z)
-    pick b q (suc zero) z l = inr (inl ((not-within-joined b (compare-honest q).high).1 z))
-    pick b q (suc (suc zero)) z l = inr (inr ((full-joined b (compare-honest q).high).1 z))
+    pick : (b : Answer) → Compared (joined_call c) b later → (n : ℕ) → Comparison.number_of b ≡ n → n ≤ 2
+        → (number_of (inclusion_of b) ≡ 8) ⊎ (number_of (inclusion_of b) ≡ 9) ⊎ (number_of (inclusion_of b) ≡ 2)
+    pick b q zero z l = inl ((within_joined b (compare_honest q).high).1 z)
+    pick b q (suc zero) z l = inr (inl ((not_within_joined b (compare_honest q).high).1 z))
+    pick b q (suc (suc zero)) z l = inr (inr ((full_joined b (compare_honest q).high).1 z))
     pick b q (suc (suc (suc n))) z l = absurd (omega (arith, l))
 
 -- the line of a refusal applies, and nothing is changed
-pub within-quiet : {c : Call} {a : Inclusion} {later : Lent} → Included c a later → IsRefused a → QuietInclusion c a later
-within-quiet (refuses e) i = record { reason = e; kept = refl; examined = refl; length = refl; unchanged = refl }
-within-quiet {c} (walks {o} f w) i = absurd ((within-honest (walks {o = o} f w)).refused.0 i ((compare-fine c).0 f))
+pub within_quiet : {c : Call} {a : Inclusion} {later : Lent} → Included c a later → IsRefused a → QuietInclusion c a later
+within_quiet (refuses e) i = record { reason = e; kept = refl; examined = refl; length = refl; unchanged = refl }
+within_quiet {c} (walks {o} f w) i = absurd ((within_honest (walks {o = o} f w)).refused.0 i ((compare_fine c).0 f))
 
 -- every call has a result
-pub within-answers : (c : Call) → (a : Inclusion) × (later : Lent) × Included c a later
-within-answers c = let (b, later, k) = compare-answers (joinedCall c) in (inclusionOf b, later, compared-included k)
+pub within_answers : (c : Call) → (a : Inclusion) × (later : Lent) × Included c a later
+within_answers c = let (b, later, k) = compare_answers (joined_call c) in (inclusion_of b, later, compared_included k)

@@ -2,16 +2,16 @@
 --   Spellable, Spelt   a path that can be written as a sequence, and the sequence written
 --   Proposable, Proposed
 --                      a number that has a candidate, and the candidate as the code makes it
---   recordsOf          the first records of the lent list; standing: the position that they make
+--   records_of         the first records of the lent list; standing: the position that they make
 --   Ready, DealtWith   a position from which the walk can go on, and what dealing with one candidate leaves
 --   Deals              what dealing leaves, of lent slices
 use Rattle.std.specs.Prelude.{◌≡◌, List, [], ◌∷◌, ◌++◌, ℕ, zero, suc, ◌+◌, ◌*◌, ◌≤◌, ◌<◌, length, get_or}
 use Rattle.lent.specs.Lent.{Slice, lay}
 use Rattle.pattern.specs.Pattern.{Valid}
-use Rattle.walk.specs.Walk.{questionOf, Record, leftsOf, rightsOf, candidate, Position, upcoming, Remains, skip, keep, Moves, Path, Ends}
+use Rattle.walk.specs.Walk.{question_of, Record, lefts_of, rights_of, candidate, Position, upcoming, Remains, skip, keep, Moves, Path, Ends}
 use Rattle.walk.specs.Walk.Outcome.{Different, Full}
-use Rattle.walk.specs.Columns.{Columns, recordAt, store}
-use Rattle.comparison.specs.Answers.{Lent, Call, callOf, lentBefore, lentAfter}
+use Rattle.walk.specs.Columns.{Columns, record_at, store}
+use Rattle.comparison.specs.Answers.{Lent, Call, call_of, lent_before, lent_after}
 use Rattle.comparison.specs.Meaning.{Roomy}
 use Rattle.comparison.specs.declared.Dealt.{Dealt}
 use Rattle.comparison.specs.declared.Candidate.{Candidate}
@@ -27,28 +27,28 @@ pub record Spellable (parents taken : List ℕ) (from : ℕ) (sequence : List �
 pub record Spelt (parents taken : List ℕ) (from last : ℕ) (old new : List ℕ) (r : ℕ) : Type 0 where
   pub all : (w : List ℕ) → Path parents taken from w → (r ≡ length w + 1) × (new ≡ lay (w ++ (last ∷ [])) old)
 
-abbrev pub recordOf : Candidate → Record
-recordOf r = record { left = r.left; right = r.right; parent = r.parent; letter = r.letter }
+abbrev pub record_of : Candidate → Record
+record_of r = record { left = r.left; right = r.right; parent = r.parent; letter = r.letter }
 
 -- a table of rows, two sides of the same records, and a candidate of that number
 pub record Proposable (states letters : ℕ) (rows lefts rights : List ℕ) (examined : ℕ) : Type 0 where
-  pub states-fit : states ≤ 64
-  pub some-letter : 1 ≤ letters
+  pub states_fit : states ≤ 64
+  pub some_letter : 1 ≤ letters
   pub tabled : length rows ≡ states * letters
   pub alike : length lefts ≡ length rights
   pub remains : examined < 1 + letters * length lefts
 
 -- by the two sides of the records alone
 pub record Proposed (states letters : ℕ) (rows : List ℕ) (x y : ℕ) (lefts rights : List ℕ) (examined : ℕ) (r : Candidate) : Type 0 where
-  pub all : (finals : ℕ) (kept : List Record) → leftsOf kept ≡ lefts → rightsOf kept ≡ rights
-      → recordOf r ≡ candidate (questionOf states letters finals rows x y) kept examined
+  pub all : (finals : ℕ) (kept : List Record) → lefts_of kept ≡ lefts → rights_of kept ≡ rights
+      → record_of r ≡ candidate (question_of states letters finals rows x y) kept examined
 
-unfoldable pub recordsOf : Columns → ℕ → List Record
-recordsOf l zero = []
-recordsOf l (suc n) = recordsOf l n ++ (recordAt l n ∷ [])
+unfoldable pub records_of : Columns → ℕ → List Record
+records_of l zero = []
+records_of l (suc n) = records_of l n ++ (record_at l n ∷ [])
 
 abbrev pub standing : Lent → ℕ → ℕ → Position
-standing l kept examined = record { kept = recordsOf l.columns kept; examined = examined }
+standing l kept examined = record { kept = records_of l.columns kept; examined = examined }
 
 -- each record but the first has an earlier parent
 pub record Ready (c : Call) (kept examined : ℕ) : Type 0 where
@@ -59,8 +59,8 @@ pub record Ready (c : Call) (kept examined : ℕ) : Type 0 where
   pub earlier : (i : ℕ) → 0 < i → i < kept → get_or c.lent.columns.parents i 0 < i
 
 -- a record stored at place n; a word written over the sequence bytes
-abbrev pub keepAt : ℕ → Record → Lent → Lent
-keepAt n r l = record { columns = store n r l.columns; sequence = l.sequence }
+abbrev pub keep_at : ℕ → Record → Lent → Lent
+keep_at n r l = record { columns = store n r l.columns; sequence = l.sequence }
 
 abbrev pub write : List ℕ → Lent → Lent
 write w l = record { columns = l.columns; sequence = lay w l.sequence }
@@ -68,12 +68,12 @@ write w l = record { columns = l.columns; sequence = lay w l.sequence }
 pub data DealtWith (c : Call) (n e : ℕ) : Dealt → Lent → Type 0 where
   skips : Moves c.question c.room (standing c.lent n e) (skip (standing c.lent n e)) → DealtWith c n e (Dealt.On n) c.lent
   keeps : Moves c.question c.room (standing c.lent n e) (keep c.question (standing c.lent n e))
-      → DealtWith c n e (Dealt.On (n + 1)) (keepAt n (upcoming c.question (standing c.lent n e)) c.lent)
-  tells : {w : List ℕ} → Ends c.question c.room (standing c.lent n e) (Different (recordsOf c.lent.columns n) (suc e) w)
+      → DealtWith c n e (Dealt.On (n + 1)) (keep_at n (upcoming c.question (standing c.lent n e)) c.lent)
+  tells : {w : List ℕ} → Ends c.question c.room (standing c.lent n e) (Different (records_of c.lent.columns n) (suc e) w)
       → DealtWith c n e (Dealt.Different (length w)) (write w c.lent)
-  fills : Ends c.question c.room (standing c.lent n e) (Full (recordsOf c.lent.columns n) (suc e)) → DealtWith c n e Dealt.Full c.lent
+  fills : Ends c.question c.room (standing c.lent n e) (Full (records_of c.lent.columns n) (suc e)) → DealtWith c n e Dealt.Full c.lent
 
 abbrev pub Deals : ℕ → ℕ → ℕ → List ℕ → ℕ → ℕ → ℕ → ℕ → ℕ → Slice → Slice → Slice → Slice → Slice → Dealt → Type 0
 Deals states letters finals rows x y room kept examined lefts rights parents taken sequence dealt =
-    DealtWith (callOf states letters finals rows x y room (lentBefore lefts rights parents taken sequence)) kept examined dealt
-    (lentAfter lefts rights parents taken sequence)
+    DealtWith (call_of states letters finals rows x y room (lent_before lefts rights parents taken sequence)) kept examined dealt
+    (lent_after lefts rights parents taken sequence)

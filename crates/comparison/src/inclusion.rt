@@ -1,6 +1,6 @@
 // The one-way question, whether every event sequence that is accepted from X is accepted from Y: the comparison of X+Y with Y.
 ghost use Rattle.std.specs.Prelude.{◌≡◌};
-ghost use Rattle.comparison.specs.Inclusion.{inclusionOf, Includes};
+ghost use Rattle.comparison.specs.Inclusion.{inclusion_of, Includes};
 
 use crate::Answer;
 
@@ -15,7 +15,7 @@ pub enum Inclusion {
 
 // The answer, by that of the comparison of X+Y with Y.
 fn one_way(answer: Answer) -> Inclusion
-    ensures { result ≡ inclusionOf answer }
+    ensures { result ≡ inclusion_of answer }
 {
     match answer {
         Answer::Same(kept, examined) => Inclusion::Within(kept, examined),

@@ -4,8 +4,8 @@
 ghost use Rattle.std.specs.Prelude.{◌≡◌, leb};
 ghost use Rattle.verdict.specs.Tests.{need, each};
 ghost use Rattle.verdict.specs.declared.Verdict.TheVariants.{Fine};
-ghost use Rattle.sets.specs.Rooms.{defaultRoom};
-ghost use Rattle.comparison.specs.Answers.{lentOf, callOf, compareTest, Compares};
+ghost use Rattle.sets.specs.Rooms.{default_room};
+ghost use Rattle.comparison.specs.Answers.{lent_of, call_of, compare_test, Compares};
 ghost use Rattle.comparison.specs.Inner.{Spellable, Spelt, Proposable, Proposed, Ready, Deals};
 
 pub mod inclusion; // inclusion.rt: the one-way question
@@ -52,7 +52,7 @@ fn compare_test(
     taken: &[u8],
     sequence: &[u8],
 ) -> Verdict
-    ensures { result ≡ compareTest (callOf states letters finals rows.now x y room (lentOf lefts.now rights.now parents.now taken.now sequence.now)) }
+    ensures { result ≡ compare_test (call_of states letters finals rows.now x y room (lent_of lefts.now rights.now parents.now taken.now sequence.now)) }
 {
     let shape = pattern::shape_test(states, letters, rows);
     let Verdict::Fine = shape else {
@@ -180,7 +180,7 @@ fn deal(
     taken: &mut [u8],
     sequence: &mut [u8],
 ) -> Dealt
-    requires { Ready (callOf states letters finals rows.now x y room (lentOf lefts.old rights.old parents.old taken.old sequence.old)) kept examined }
+    requires { Ready (call_of states letters finals rows.now x y room (lent_of lefts.old rights.old parents.old taken.old sequence.old)) kept examined }
     ensures { Deals states letters finals rows.now x y room kept examined lefts rights parents taken sequence result }
 {
     let next = propose(
@@ -235,7 +235,7 @@ fn run(
     taken: &mut [u8],
     sequence: &mut [u8],
 ) -> Answer
-    requires { compareTest (callOf states letters finals rows.now x y room (lentOf lefts.old rights.old parents.old taken.old sequence.old)) ≡ Fine }
+    requires { compare_test (call_of states letters finals rows.now x y room (lent_of lefts.old rights.old parents.old taken.old sequence.old)) ≡ Fine }
     ensures { Compares states letters finals rows.now x y room lefts rights parents taken sequence result }
 {
     let mut kept = 0;
@@ -304,7 +304,7 @@ pub fn compare_default(
     taken: &mut [u8],
     sequence: &mut [u8],
 ) -> Answer
-    ensures { Compares states letters finals rows.now x y defaultRoom lefts rights parents taken sequence result }
+    ensures { Compares states letters finals rows.now x y default_room lefts rights parents taken sequence result }
 {
     compare(
         states,

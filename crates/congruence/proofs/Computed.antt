@@ -11,14 +11,14 @@ use lib.Bits.{bit_or, bit_and}
 use lib.Dec.{eqb}
 use borrow.Author.Tests.{eqb-true, eqb-false}
 use Rattle.sets.specs.Sets.{Within}
-use Rattle.sets.proofs.Inclusion.{within-trans, within-left, within-right, within-le, within-test}
-use Rattle.sets.proofs.Growing.{Stepped, Passed, took, passed-by, stepped-both, passed-none, passed-more}
+use Rattle.sets.proofs.Inclusion.{within_trans, within_left, within_right, within_le, within_test}
+use Rattle.sets.proofs.Growing.{Stepped, Passed, took, passed_by, stepped_both, passed_none, passed_more}
 use Rattle.congruence.specs.Congruence.{Congruent, Listed}
 use Rattle.congruence.specs.Closing.{Grows, Closed, Closes}
 use Rattle.congruence.specs.Closing.Grows.{nothing, right, left}
-use Rattle.congruence.proofs.Growth.{grown-on, grown-under}
-use Rattle.congruence.proofs.Passes.{StillAt, passed-closed}
-use Rattle.congruence.proofs.Deciding.{closing-decides}
+use Rattle.congruence.proofs.Growth.{grown_on, grown_under}
+use Rattle.congruence.proofs.Passes.{StillAt, passed_closed}
+use Rattle.congruence.proofs.Deciding.{closing_decides}
 
 -- ---- one pass
 
@@ -31,29 +31,29 @@ unfoldable pub passed : List ℕ → List ℕ → ℕ → ℕ → ℕ
 passed ls rs zero m = m
 passed ls rs (suc i) m = added (get_or rs i 0) (get_or ls i 0) (added (get_or ls i 0) (get_or rs i 0) (passed ls rs i m))
 
-added-stepped : {Keeps : ℕ → Type 0} (a b m : ℕ) → Keeps m → (Within a m → Keeps (bit_or b m)) → Stepped Keeps (Within a m → Within b m) m (added a b m)
+added_stepped : {Keeps : ℕ → Type 0} (a b m : ℕ) → Keeps m → (Within a m → Keeps (bit_or b m)) → Stepped Keeps (Within a m → Within b m) m (added a b m)
 unfolding added
-added-stepped {Keeps} a b m k f = pick (eqb (bit_and a m) a) refl
+added_stepped {Keeps} a b m k f = pick (eqb (bit_and a m) a) refl
   where
     pick : (t : Bool) → eqb (bit_and a m) a ≡ t → Stepped Keeps (Within a m → Within b m) m (cond t (bit_or b m) m)
-    pick true e = took (f ((within-test a m).0 (eqb-true _ _ e))) refl
-    pick false e = passed-by k (λ w. eqb-false _ _ e ((within-test a m).1 w)) refl
+    pick true e = took (f ((within_test a m).0 (eqb-true _ _ e))) refl
+    pick false e = passed_by k (λ w. eqb-false _ _ e ((within_test a m).1 w)) refl
 
 module _ (ls rs : List ℕ) where
-  passed-first : (m i : ℕ) → i ≤ length ls → Passed (Grows (Listed ls rs) m) (StillAt ls rs) (length ls) m i (passed ls rs i m)
+  passed_first : (m i : ℕ) → i ≤ length ls → Passed (Grows (Listed ls rs) m) (StillAt ls rs) (length ls) m i (passed ls rs i m)
   unfolding passed
-  passed-first m zero l = passed-none nothing
-  passed-first m (suc i) l =
-      let p = passed-first m i (omega arith) in
+  passed_first m zero l = passed_none nothing
+  passed_first m (suc i) l =
+      let p = passed_first m i (omega arith) in
       let a = get_or ls i 0 in
       let b = get_or rs i 0 in
       let pair : Listed ls rs a b = record { at = i; below = l; left = refl; right = refl } in
-      let s = added-stepped a b (passed ls rs i m) p.grown.keeps (λ w. right p.grown.keeps pair w) in
-      let t = added-stepped b a _ s.grown.keeps (λ w. left s.grown.keeps pair w) in
-      rw add-one at (passed-more i l p (stepped-both (λ k. Within b k → Within a k) s t))
+      let s = added_stepped a b (passed ls rs i m) p.grown.keeps (λ w. right p.grown.keeps pair w) in
+      let t = added_stepped b a _ s.grown.keeps (λ w. left s.grown.keeps pair w) in
+      rw add-one at (passed_more i l p (stepped_both (λ k. Within b k → Within a k) s t))
 
   whole : (m : ℕ) → Passed (Grows (Listed ls rs) m) (StillAt ls rs) (length ls) m (length ls) (passed ls rs (length ls) m)
-  whole m = passed-first m (length ls) (omega arith)
+  whole m = passed_first m (length ls) (omega arith)
 
 -- ---- passes until one adds nothing
 
@@ -75,41 +75,41 @@ top ls rs set = bit_or (bit_or (joined ls) (joined rs)) set
 unfoldable pub closing : List ℕ → List ℕ → ℕ → ℕ
 closing ls rs set = passes (suc (top ls rs set)) false ls rs set
 
-within-joined : (sets : List ℕ) (i : ℕ) → Within (get_or sets i 0) (joined sets)
+within_joined : (sets : List ℕ) (i : ℕ) → Within (get_or sets i 0) (joined sets)
 unfolding joined
-within-joined [] i = record { joins = refl }
-within-joined (a ∷ rest) zero = within-left a (joined rest)
-within-joined (a ∷ rest) (suc i) = within-trans (within-joined rest i) (within-right a (joined rest))
+within_joined [] i = record { joins = refl }
+within_joined (a ∷ rest) zero = within_left a (joined rest)
+within_joined (a ∷ rest) (suc i) = within_trans (within_joined rest i) (within_right a (joined rest))
 
 module _ (ls rs : List ℕ) (set : ℕ) where
-  under-top : {m : ℕ} → Grows (Listed ls rs) set m → Within m (top ls rs set)
+  under_top : {m : ℕ} → Grows (Listed ls rs) set m → Within m (top ls rs set)
   unfolding top
-  under-top g =
-      let all = within-left (bit_or (joined ls) (joined rs)) set in
-      grown-under (λ a b r. (
-        rw (← r.left) (within-trans (within-joined ls r.at) (within-trans (within-left (joined ls) (joined rs)) all)),
-        rw (← r.right) (within-trans (within-joined rs r.at) (within-trans (within-right (joined ls) (joined rs)) all)),
-      )) (within-right (bit_or (joined ls) (joined rs)) set) g
+  under_top g =
+      let all = within_left (bit_or (joined ls) (joined rs)) set in
+      grown_under (λ a b r. (
+        rw (← r.left) (within_trans (within_joined ls r.at) (within_trans (within_left (joined ls) (joined rs)) all)),
+        rw (← r.right) (within_trans (within_joined rs r.at) (within_trans (within_right (joined ls) (joined rs)) all)),
+      )) (within_right (bit_or (joined ls) (joined rs)) set) g
 
-  passes-closes : (f : ℕ) (ended : Bool) (m : ℕ) → Grows (Listed ls rs) set m → (ended ≡ true → Closed (Listed ls rs) m)
+  passes_closes : (f : ℕ) (ended : Bool) (m : ℕ) → Grows (Listed ls rs) set m → (ended ≡ true → Closed (Listed ls rs) m)
       → (ended ≡ false → top ls rs set < m + f) → Closes (Listed ls rs) set (passes f ended ls rs m)
   unfolding passes
-  passes-closes zero true m g s l = record { grown = g; still = s refl }
-  passes-closes (suc f) true m g s l = record { grown = g; still = s refl }
-  passes-closes zero false m g s l = absurd (omega (arith, l refl, within-le (under-top g)))
-  passes-closes (suc f) false m g s l =
+  passes_closes zero true m g s l = record { grown = g; still = s refl }
+  passes_closes (suc f) true m g s l = record { grown = g; still = s refl }
+  passes_closes zero false m g s l = absurd (omega (arith, l refl, within_le (under_top g)))
+  passes_closes (suc f) false m g s l =
       let m' = passed ls rs (length ls) m in
       let p = whole ls rs m in
-      passes-closes f (eqb m' m) m' (grown-on g p.grown.keeps) (λ e. passed-closed (omega arith) p (eqb-true m' m e))
-      (λ e. let n = eqb-false m' m e in omega (arith, l refl, within-le p.grown.within))
+      passes_closes f (eqb m' m) m' (grown_on g p.grown.keeps) (λ e. passed_closed (omega arith) p (eqb-true m' m e))
+      (λ e. let n = eqb-false m' m e in omega (arith, l refl, within_le p.grown.within))
 
-  pub closing-closes : Closes (Listed ls rs) set (closing ls rs set)
+  pub closing_closes : Closes (Listed ls rs) set (closing ls rs set)
   unfolding closing
-  closing-closes = passes-closes (suc (top ls rs set)) false set nothing (λ e. absurd (true≢false (sym e))) (λ e. omega arith)
+  closing_closes = passes_closes (suc (top ls rs set)) false set nothing (λ e. absurd (true≢false (sym e))) (λ e. omega arith)
 
-pub congruent-dec : (ls rs : List ℕ) (a b : ℕ) → Dec (Congruent (Listed ls rs) a b)
-congruent-dec ls rs a b = pick (ℕ_discrete (closing ls rs a) (closing ls rs b))
+pub congruent_dec : (ls rs : List ℕ) (a b : ℕ) → Dec (Congruent (Listed ls rs) a b)
+congruent_dec ls rs a b = pick (ℕ_discrete (closing ls rs a) (closing ls rs b))
   where
     pick : Dec (closing ls rs a ≡ closing ls rs b) → Dec (Congruent (Listed ls rs) a b)
-    pick (yes e) = yes ((closing-decides (closing-closes ls rs a) (closing-closes ls rs b)).1 e)
-    pick (no f) = no (λ h. f ((closing-decides (closing-closes ls rs a) (closing-closes ls rs b)).0 h))
+    pick (yes e) = yes ((closing_decides (closing_closes ls rs a) (closing_closes ls rs b)).1 e)
+    pick (no f) = no (λ h. f ((closing_decides (closing_closes ls rs a) (closing_closes ls rs b)).0 h))

@@ -3,7 +3,7 @@ use mathlib.Core.List.{List, [], ◌∷◌}
 use Prim.Native.Nat.{ℕ}
 use Rattle.congruence.specs.Congruence.{Listed}
 use Rattle.congruence.specs.Closing.{Closes}
-use Rattle.congruence.proofs.Computed.{added, passed, passes, joined, top, closing, closing-closes}
+use Rattle.congruence.proofs.Computed.{added, passed, passes, joined, top, closing, closing_closes}
 
 abbrev lefts : List ℕ
 lefts = 2 ∷ 1 ∷ []
@@ -11,10 +11,10 @@ lefts = 2 ∷ 1 ∷ []
 abbrev rights : List ℕ
 rights = 4 ∷ 2 ∷ []
 
-pub one-closes-to-seven : Closes (Listed lefts rights) 1 7
+pub one_closes_to_seven : Closes (Listed lefts rights) 1 7
 unfolding closing top joined passes passed added
-one-closes-to-seven = closing-closes lefts rights 1
+one_closes_to_seven = closing_closes lefts rights 1
 
-pub four-closes-to-seven : Closes (Listed lefts rights) 4 7
+pub four_closes_to_seven : Closes (Listed lefts rights) 4 7
 unfolding closing top joined passes passed added
-four-closes-to-seven = closing-closes lefts rights 4
+four_closes_to_seven = closing_closes lefts rights 4

@@ -1,6 +1,6 @@
 -- Congruence (the scope, §4; 000, section 3): the least relation on sets that has the given pairs, is reflexive, symmetric and transitive, and goes under unions.
 --   Congruence S    S is reflexive, symmetric and transitive, and goes under unions
---   Congruent R     the least congruence that has the pairs of R (`congruent-laws`, `least`)
+--   Congruent R     the least congruence that has the pairs of R (`congruent_laws`, `least`)
 --   Listed ls rs    the pairs of a list
 use Rattle.std.specs.Prelude.{◌≡◌, List, ℕ, ◌<◌, length, get_or}
 use Rattle.std.specs.Int.Bits.{bit_or}

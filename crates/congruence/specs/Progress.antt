@@ -1,6 +1,6 @@
 -- Bisimulation up to congruence (the scope, §4.6; 000, section 3): what a pair of sets owes, and a relation whose pairs all pay it.
 --   Progresses P R a b   a and b agree on the empty sequence, and each letter takes them to sets that are congruent by R
---   Progress P R         each pair of R progresses: congruent sets have one language then (`up-to-congruence`)
+--   Progress P R         each pair of R progresses: congruent sets have one language then (`up_to_congruence`)
 use Rattle.std.specs.Prelude.{◌≡◌, [], ℕ, ◌<◌}
 use Rattle.pattern.specs.Pattern.{Pattern}
 use Rattle.pattern.specs.Language.{next, accepts}

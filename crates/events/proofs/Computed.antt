@@ -17,11 +17,11 @@ abbrev pub every : (ℕ → Bool) → ℕ → Bool
 every f zero = true
 every f (suc n) = f n && every f n
 
-pub every-at : (f : ℕ → Bool) (n : ℕ) → T (every f n) → (i : ℕ) → i < n → T (f i)
-every-at f zero t i h = absurd (omega arith)
-every-at f (suc n) t i h =
+pub every_at : (f : ℕ → Bool) (n : ℕ) → T (every f n) → (i : ℕ) → i < n → T (f i)
+every_at f zero t i h = absurd (omega arith)
+every_at f (suc n) t i h =
     elim (dec_lt i n) [
-      | yes l ↦ every-at f n (both (f n) (every f n) t).1 i l
+      | yes l ↦ every_at f n (both (f n) (every f n) t).1 i l
       | no m ↦ let e : i ≡ n = omega arith in rw e (both (f n) (every f n) t).0
     ]
 
@@ -32,19 +32,19 @@ same [] (y ∷ ys) = false
 same (x ∷ xs) [] = false
 same (x ∷ xs) (y ∷ ys) = eqb x y && same xs ys
 
-pub same-equal : (xs ys : List ℕ) → T (same xs ys) → xs ≡ ys
-same-equal [] [] t = refl
-same-equal [] (y ∷ ys) t = absurd t
-same-equal (x ∷ xs) [] t = absurd t
-same-equal (x ∷ xs) (y ∷ ys) t =
+pub same_equal : (xs ys : List ℕ) → T (same xs ys) → xs ≡ ys
+same_equal [] [] t = refl
+same_equal [] (y ∷ ys) t = absurd t
+same_equal (x ∷ xs) [] t = absurd t
+same_equal (x ∷ xs) (y ∷ ys) t =
     let p = both (eqb x y) (same xs ys) t in
     let e : x ≡ y = eqb→eq x y p.0 in
-    let r : xs ≡ ys = same-equal xs ys p.1 in
+    let r : xs ≡ ys = same_equal xs ys p.1 in
     cc
 
-pub same-self : (xs : List ℕ) → T (same xs xs)
-same-self [] = tt
-same-self (x ∷ xs) = and (eqb x x) (same xs xs) (eqb_refl x) (same-self xs)
+pub same_self : (xs : List ℕ) → T (same xs xs)
+same_self [] = tt
+same_self (x ∷ xs) = and (eqb x x) (same xs xs) (eqb_refl x) (same_self xs)
   where
     and : (a b : Bool) → T a → T b → T (a && b)
     and true true s t = tt

@@ -2,7 +2,7 @@
 #![tactic(auto)]
 
 ghost use Rattle.std.specs.Prelude.{◌≡◌, ◌+◌, ◌<◌, ◌≤◌, length};
-ghost use Rattle.events.specs.Events.{eventName};
+ghost use Rattle.events.specs.Events.{event_name};
 ghost use Rattle.lent.specs.Lent.{Put};
 
 use text::{put_byte, put_bytes, put_decimal};
@@ -30,14 +30,14 @@ const NAMED: u8 = 12;
 
 fn length_of(row: usize) -> usize
     requires { row < 12 }
-    ensures { result ≡ length (eventName row) }
+    ensures { result ≡ length (event_name row) }
 {
     LENGTHS[row]
 }
 
 pub fn put_name(out: &mut [u8], at: usize, letter: u8) -> usize
-    requires { at + length (eventName letter) ≤ length out.old }
-    ensures { Put out.old at (eventName letter) result out.new }
+    requires { at + length (event_name letter) ≤ length out.old }
+    ensures { Put out.old at (event_name letter) result out.new }
 {
     if letter < NAMED {
         let row = letter as usize;

@@ -7,8 +7,8 @@ use native.Mathlib.Decide.{dec_lt}
 use Rattle.verdict.proofs.Ordered.{apart}
 use Rattle.pattern.specs.Pattern.{Pattern}
 use Rattle.evidence.specs.Evidence.{Offer, HoldsAt, HoldBelow, ByPairs, Checked}
-use Rattle.evidence.specs.Evidence.ByPairs.{all-hold, fails}
-use Rattle.evidence.specs.Evidence.Checked.{refuses, not-started, started}
+use Rattle.evidence.specs.Evidence.ByPairs.{all_hold, fails}
+use Rattle.evidence.specs.Evidence.Checked.{refuses, not_started, started}
 use Rattle.evidence.specs.declared.Answer.{Answer}
 use Rattle.evidence.specs.declared.Answer.TheVariants.{NotProved}
 
@@ -22,20 +22,20 @@ lowest {P} {lefts} {rights} {i} {j} p f q g = pick (dec_lt i j) (dec_lt j i)
     pick (no a) (yes l) = absurd (g (p j l))
     pick (no a) (no b) = omega arith
 
-pub by-pairs-determined : {P : Pattern} {lefts rights : List ℕ} {r s : Answer} → ByPairs P lefts rights r → ByPairs P lefts rights s → r ≡ s
-by-pairs-determined (all-hold h) (all-hold k) = refl
-by-pairs-determined (all-hold h) (fails l q g) = absurd (g (h _ l))
-by-pairs-determined (fails l p f) (all-hold k) = absurd (f (k _ l))
-by-pairs-determined (fails l p f) (fails m q g) = ap NotProved (lowest p f q g)
+pub by_pairs_determined : {P : Pattern} {lefts rights : List ℕ} {r s : Answer} → ByPairs P lefts rights r → ByPairs P lefts rights s → r ≡ s
+by_pairs_determined (all_hold h) (all_hold k) = refl
+by_pairs_determined (all_hold h) (fails l q g) = absurd (g (h _ l))
+by_pairs_determined (fails l p f) (all_hold k) = absurd (f (k _ l))
+by_pairs_determined (fails l p f) (fails m q g) = ap NotProved (lowest p f q g)
 
 -- two answers that the check may give to one offer are equal
-pub check-determined : {o : Offer} {r s : Answer} → Checked o r → Checked o s → r ≡ s
-check-determined (refuses e) (refuses d) = cc
-check-determined (refuses e) (not-started d g) = apart d e
-check-determined (refuses e) (started d k q) = apart d e
-check-determined (not-started e f) (refuses d) = apart e d
-check-determined (not-started e f) (not-started d g) = refl
-check-determined (not-started e f) (started d k q) = absurd (f k)
-check-determined (started e h p) (refuses d) = apart e d
-check-determined (started e h p) (not-started d g) = absurd (g h)
-check-determined (started e h p) (started d k q) = by-pairs-determined p q
+pub check_determined : {o : Offer} {r s : Answer} → Checked o r → Checked o s → r ≡ s
+check_determined (refuses e) (refuses d) = cc
+check_determined (refuses e) (not_started d g) = apart d e
+check_determined (refuses e) (started d k q) = apart d e
+check_determined (not_started e f) (refuses d) = apart e d
+check_determined (not_started e f) (not_started d g) = refl
+check_determined (not_started e f) (started d k q) = absurd (f k)
+check_determined (started e h p) (refuses d) = apart e d
+check_determined (started e h p) (not_started d g) = absurd (g h)
+check_determined (started e h p) (started d k q) = by_pairs_determined p q

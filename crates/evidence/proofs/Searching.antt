@@ -8,7 +8,7 @@ use Rattle.pattern.specs.Pattern.{Pattern}
 use Rattle.pattern.specs.Language.{next, accepts}
 use Rattle.congruence.specs.Congruence.{Congruent, Listed}
 use Rattle.evidence.specs.Evidence.{Holds, HoldBelow, ByPairs}
-use Rattle.evidence.specs.Evidence.ByPairs.{all-hold}
+use Rattle.evidence.specs.Evidence.ByPairs.{all_hold}
 use Rattle.evidence.specs.declared.Answer.TheVariants.{Proved}
 
 -- ---- one pair
@@ -19,8 +19,8 @@ pub record Stepped (P : Pattern) (lefts rights : List ℕ) (a b i : ℕ) : Type 
   pub steps : (letter : ℕ) → letter < i → Congruent (Listed lefts rights) (next P a letter) (next P b letter)
 
 module _ {P : Pattern} {lefts rights : List ℕ} {a b : ℕ} where
-  pub stepped-all : {i : ℕ} → P.letters ≤ i → Stepped P lefts rights a b i → accepts P a [] ≡ accepts P b [] → Holds P lefts rights a b
-  stepped-all {i} l s e = record { agrees = e; steps = λ letter h. s.steps letter (omega arith) }
+  pub stepped_all : {i : ℕ} → P.letters ≤ i → Stepped P lefts rights a b i → accepts P a [] ≡ accepts P b [] → Holds P lefts rights a b
+  stepped_all {i} l s e = record { agrees = e; steps = λ letter h. s.steps letter (omega arith) }
 
 -- ---- all pairs
 
@@ -30,5 +30,5 @@ pub record Held (P : Pattern) (lefts rights : List ℕ) (i : ℕ) : Type 0 where
   pub lower : HoldBelow P lefts rights i
 
 module _ {P : Pattern} {lefts rights : List ℕ} where
-  pub held-all : {i : ℕ} → length lefts ≤ i → Held P lefts rights i → ByPairs P lefts rights Proved
-  held-all {i} l s = all-hold (λ j h. s.lower j (omega arith))
+  pub held_all : {i : ℕ} → length lefts ≤ i → Held P lefts rights i → ByPairs P lefts rights Proved
+  held_all {i} l s = all_hold (λ j h. s.lower j (omega arith))

@@ -8,53 +8,53 @@ use lib.ListN.{length}
 use lib.Dec.{leb, eqb}
 use borrow.Author.Tests.{leb-true, le-leb, eqb-true, eq-eqb}
 use Rattle.verdict.specs.declared.Verdict.TheVariants.{Fine}
-use Rattle.verdict.proofs.Ordered.{need-holds, need-fine, order-fine}
+use Rattle.verdict.proofs.Ordered.{need_holds, need_fine, order_fine}
 use Rattle.sets.specs.Sets.{Good}
-use Rattle.sets.specs.Rooms.{maxRoom}
+use Rattle.sets.specs.Rooms.{max_room}
 use Rattle.pattern.specs.Pattern.{AllGood}
-use Rattle.pattern.proofs.Validity.{set-fine, sets-fine, shape-fine, masks-fine}
-use Rattle.evidence.specs.Evidence.{Offer, ValidOffer, listTest, pairsTest, checkTest}
+use Rattle.pattern.proofs.Validity.{set_fine, sets_fine, shape_fine, masks_fine}
+use Rattle.evidence.specs.Evidence.{Offer, ValidOffer, list_test, pairs_test, check_test}
 
-pub list-fine : (lefts rights : ℕ) → (listTest lefts rights ≡ Fine) ↔ ((lefts ≤ maxRoom) × (lefts ≡ rights))
-unfolding listTest
-list-fine lefts rights = (
-  λ e. let (p, q) = (and-eq-true_iff (leb lefts maxRoom) (eqb lefts rights)).0 (need-fine _ 16 e) in (leb-true lefts maxRoom p, eqb-true lefts rights q),
-  λ (p, q). need-holds _ 16 (rw (le-leb lefts maxRoom p, eq-eqb lefts rights q) refl),
+pub list_fine : (lefts rights : ℕ) → (list_test lefts rights ≡ Fine) ↔ ((lefts ≤ max_room) × (lefts ≡ rights))
+unfolding list_test
+list_fine lefts rights = (
+  λ e. let (p, q) = (and-eq-true_iff (leb lefts max_room) (eqb lefts rights)).0 (need_fine _ 16 e) in (leb-true lefts max_room p, eqb-true lefts rights q),
+  λ (p, q). need_holds _ 16 (rw (le-leb lefts max_room p, eq-eqb lefts rights q) refl),
 )
 
 -- 12 for X, Y and the pairs
-pub pairs-fine : (n x y : ℕ) (lefts rights : List ℕ) → (pairsTest n x y lefts rights ≡ Fine) ↔ (Good n x × Good n y × AllGood n lefts × AllGood n rights)
-unfolding pairsTest
-pairs-fine n x y lefts rights = (
-  λ e. let (p, (q, (l, (r, _)))) = (order-fine _).0 e in ((set-fine n x).0 p, (set-fine n y).0 q, (sets-fine n lefts).0 l, (sets-fine n rights).0 r),
-  λ (p, q, l, r). (order-fine _).1 ((set-fine n x).1 p, ((set-fine n y).1 q, ((sets-fine n lefts).1 l, ((sets-fine n rights).1 r, tt)))),
+pub pairs_fine : (n x y : ℕ) (lefts rights : List ℕ) → (pairs_test n x y lefts rights ≡ Fine) ↔ (Good n x × Good n y × AllGood n lefts × AllGood n rights)
+unfolding pairs_test
+pairs_fine n x y lefts rights = (
+  λ e. let (p, (q, (l, (r, _)))) = (order_fine _).0 e in ((set_fine n x).0 p, (set_fine n y).0 q, (sets_fine n lefts).0 l, (sets_fine n rights).0 r),
+  λ (p, q, l, r). (order_fine _).1 ((set_fine n x).1 p, ((set_fine n y).1 q, ((sets_fine n lefts).1 l, ((sets_fine n rights).1 r, tt)))),
 )
 
-pub offer-valid : (o : Offer) → (checkTest o ≡ Fine) ↔ ValidOffer o
-unfolding checkTest
-offer-valid o = (to, fro)
+pub offer_valid : (o : Offer) → (check_test o ≡ Fine) ↔ ValidOffer o
+unfolding check_test
+offer_valid o = (to, fro)
   where
-    to : checkTest o ≡ Fine → ValidOffer o
+    to : check_test o ≡ Fine → ValidOffer o
     to e =
-        let all = (order-fine _).0 e in
-        let (sized, tabled) = (shape-fine o.pattern).0 search in
-        let (finals, rows) = (masks-fine o.pattern).0 search in
-        let (fit, match) = (list-fine (length o.lefts) (length o.rights)).0 search in
-        let (x, y, lefts, rights) = (pairs-fine o.pattern.states o.x o.y o.lefts o.rights).0 search in
+        let all = (order_fine _).0 e in
+        let (sized, tabled) = (shape_fine o.pattern).0 search in
+        let (finals, rows) = (masks_fine o.pattern).0 search in
+        let (fit, match) = (list_fine (length o.lefts) (length o.rights)).0 search in
+        let (x, y, lefts, rights) = (pairs_fine o.pattern.states o.x o.y o.lefts o.rights).0 search in
         record {
-          pattern = record { sized = sized; tabled = tabled; finals-good = finals; rows-good = rows };
-          pairs-fit = fit;
-          sides-match = match;
-          x-good = x;
-          y-good = y;
-          lefts-good = lefts;
-          rights-good = rights;
+          pattern = record { sized = sized; tabled = tabled; finals_good = finals; rows_good = rows };
+          pairs_fit = fit;
+          sides_match = match;
+          x_good = x;
+          y_good = y;
+          lefts_good = lefts;
+          rights_good = rights;
         }
 
-    fro : ValidOffer o → checkTest o ≡ Fine
+    fro : ValidOffer o → check_test o ≡ Fine
     fro v =
-        let shape = (shape-fine o.pattern).1 (v.pattern.sized, v.pattern.tabled) in
-        let list = (list-fine (length o.lefts) (length o.rights)).1 (v.pairs-fit, v.sides-match) in
-        let masks = (masks-fine o.pattern).1 (v.pattern.finals-good, v.pattern.rows-good) in
-        let pairs = (pairs-fine o.pattern.states o.x o.y o.lefts o.rights).1 (v.x-good, v.y-good, v.lefts-good, v.rights-good) in
-        (order-fine _).1 (search)
+        let shape = (shape_fine o.pattern).1 (v.pattern.sized, v.pattern.tabled) in
+        let list = (list_fine (length o.lefts) (length o.rights)).1 (v.pairs_fit, v.sides_match) in
+        let masks = (masks_fine o.pattern).1 (v.pattern.finals_good, v.pattern.rows_good) in
+        let pairs = (pairs_fine o.pattern.states o.x o.y o.lefts o.rights).1 (v.x_good, v.y_good, v.lefts_good, v.rights_good) in
+        (order_fine _).1 (search)

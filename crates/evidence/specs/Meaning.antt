@@ -1,18 +1,18 @@
 -- What the answers of the check mean, to a host that sees their numbers.
 --   IsRefused     the answer is a refusal
---   checkLines    the lines of the refusals: `checkTest` goes by them (`check-lines`)
+--   check_lines   the lines of the refusals: `check_test` goes by them (`check_lines_lem`)
 --   Holding       evidence that holds: X and Y are congruent by the list, and every pair holds
 --   FailsAt       where evidence fails: the number of pairs where X and Y are not congruent by the list, else the lowest failing pair
---   HonestCheck   what an answer means (`check-honest`)
+--   HonestCheck   what an answer means (`check_honest`)
 use Rattle.std.specs.Prelude.{◌≡◌, ◌↔◌, ℕ, ◌≤◌, ◌<◌, length}
 use Rattle.verdict.specs.Lines.{Lines, Applies}
 use Rattle.verdict.specs.Lines.Lines.{none, line}
 use Rattle.sets.specs.Sets.{Good}
-use Rattle.sets.specs.Rooms.{maxRoom}
+use Rattle.sets.specs.Rooms.{max_room}
 use Rattle.pattern.specs.Pattern.{AllGood}
-use Rattle.pattern.specs.Refusals.{MasksGood, shapeLines}
+use Rattle.pattern.specs.Refusals.{MasksGood, shape_lines}
 use Rattle.pattern.specs.Language.{SameLanguage}
-use Rattle.evidence.specs.Evidence.{Offer, ValidOffer, Starts, HoldsAt, HoldBelow, numberOf, placeOf}
+use Rattle.evidence.specs.Evidence.{Offer, ValidOffer, Starts, HoldsAt, HoldBelow, number_of, place_of}
 use Rattle.evidence.specs.declared.Answer.{Answer}
 use Rattle.evidence.specs.declared.Answer.TheVariants.{Proved, NotProved, Refused}
 
@@ -28,10 +28,10 @@ abbrev pub PairsGood : Offer → Type 0
 PairsGood o = Good o.pattern.states o.x × Good o.pattern.states o.y × AllGood o.pattern.states o.lefts × AllGood o.pattern.states o.rights
 
 -- 10, 11, 16, 12
-abbrev pub checkLines : Offer → Lines
-checkLines o =
-    shapeLines o.pattern
-    (line 16 ((length o.lefts ≤ maxRoom) × (length o.lefts ≡ length o.rights))
+abbrev pub check_lines : Offer → Lines
+check_lines o =
+    shape_lines o.pattern
+    (line 16 ((length o.lefts ≤ max_room) × (length o.lefts ≡ length o.rights))
     (line 12 (MasksGood o.pattern × PairsGood o) none))
 
 -- ---- the evidence
@@ -48,10 +48,10 @@ pub data FailsAt (o : Offer) : ℕ → Type 0 where
 -- 5 PROVED exactly where the evidence holds, and then the languages are equal, whoever wrote the list; 6 NOT-PROVED with its place exactly where
 -- it fails there; a refusal, 10 and up, exactly where a line applies, by its number. The place is 0 but for NOT-PROVED.
 pub record HonestCheck (o : Offer) (a : Answer) : Type 0 where
-  pub proved : (numberOf a ≡ 5) ↔ (ValidOffer o × Holding o)
-  pub same : numberOf a ≡ 5 → SameLanguage o.pattern o.x o.y
-  pub not-proved : (place : ℕ) → ((numberOf a ≡ 6) × (placeOf a ≡ place)) ↔ (ValidOffer o × FailsAt o place)
+  pub proved : (number_of a ≡ 5) ↔ (ValidOffer o × Holding o)
+  pub same : number_of a ≡ 5 → SameLanguage o.pattern o.x o.y
+  pub not_proved : (place : ℕ) → ((number_of a ≡ 6) × (place_of a ≡ place)) ↔ (ValidOffer o × FailsAt o place)
   pub refused : IsRefused a ↔ (ValidOffer o → ⊥)
-  pub refused-by : (w : ℕ) → (IsRefused a × (numberOf a ≡ w)) ↔ Applies (checkLines o) w
-  pub high : IsRefused a → 10 ≤ numberOf a
-  pub no-place : (numberOf a ≡ 6 → ⊥) → placeOf a ≡ 0
+  pub refused_by : (w : ℕ) → (IsRefused a × (number_of a ≡ w)) ↔ Applies (check_lines o) w
+  pub high : IsRefused a → 10 ≤ number_of a
+  pub no_place : (number_of a ≡ 6 → ⊥) → place_of a ≡ 0

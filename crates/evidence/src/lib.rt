@@ -3,9 +3,9 @@
 
 ghost use Rattle.std.specs.Prelude.{◌≡◌, ◌*◌, ◌≤◌, length};
 ghost use Rattle.verdict.specs.Tests.{Decides};
-ghost use Rattle.pattern.specs.Pattern.{patternOf};
-ghost use Rattle.evidence.specs.Evidence.{offerOf, Holds, ByPairs, Checked};
-ghost use Rattle.evidence.specs.Evidence.{listTest, pairsTest, checkTest};
+ghost use Rattle.pattern.specs.Pattern.{pattern_of};
+ghost use Rattle.evidence.specs.Evidence.{offer_of, Holds, ByPairs, Checked};
+ghost use Rattle.evidence.specs.Evidence.{list_test, pairs_test, check_test};
 
 use sets::States;
 use verdict::Verdict;
@@ -19,9 +19,9 @@ pub enum Answer {
 }
 
 // BAD-LIST: a list has at most as many pairs as the largest room.
-#[tactic(auto, unfolding(crate::specs::Evidence::listTest, verdict::specs::Tests::need))]
+#[tactic(auto, unfolding(crate::specs::Evidence::list_test, verdict::specs::Tests::need))]
 fn list_test(lefts: usize, rights: usize) -> Verdict
-    ensures { result ≡ listTest lefts rights }
+    ensures { result ≡ list_test lefts rights }
 {
     if lefts > States::MAX_ROOM {
         return Verdict::Against(16);
@@ -31,7 +31,7 @@ fn list_test(lefts: usize, rights: usize) -> Verdict
 
 // BAD-SET: the starting pair and all listed ones.
 fn pairs_test(states: usize, x: u64, y: u64, lefts: &[u64], rights: &[u64]) -> Verdict
-    ensures { result ≡ pairsTest states x y lefts.now rights.now }
+    ensures { result ≡ pairs_test states x y lefts.now rights.now }
 {
     let first = pattern::set_test(states, x);
     let Verdict::Fine = first else {
@@ -59,7 +59,7 @@ pub fn check_test(
     lefts: &[u64],
     rights: &[u64],
 ) -> Verdict
-    ensures { result ≡ checkTest (offerOf states letters finals rows.now x y lefts.now rights.now) }
+    ensures { result ≡ check_test (offer_of states letters finals rows.now x y lefts.now rights.now) }
 {
     let shape = pattern::shape_test(states, letters, rows);
     let Verdict::Fine = shape else {
@@ -90,7 +90,7 @@ fn holds(
     requires states_bound { states ≤ 64 }
     requires rows_len { length rows.now ≡ states * letters }
     requires lefts_len { length lefts.now ≡ length rights.now }
-    ensures { Decides (Holds (patternOf states letters finals rows.now) lefts.now rights.now a b) result }
+    ensures { Decides (Holds (pattern_of states letters finals rows.now) lefts.now rights.now a b) result }
 {
     if sets::meets(a, finals) != sets::meets(b, finals) {
         return false;
@@ -119,7 +119,7 @@ fn by_pairs(
     requires states_bound { states ≤ 64 }
     requires rows_len { length rows.now ≡ states * letters }
     requires lefts_len { length lefts.now ≡ length rights.now }
-    ensures { ByPairs (patternOf states letters finals rows.now) lefts.now rights.now result }
+    ensures { ByPairs (pattern_of states letters finals rows.now) lefts.now rights.now result }
 {
     let mut place = 0;
     while place < lefts.len() {
@@ -144,7 +144,7 @@ pub fn check(
     lefts: &[u64],
     rights: &[u64],
 ) -> Answer
-    ensures { Checked (offerOf states letters finals rows.now x y lefts.now rights.now) result }
+    ensures { Checked (offer_of states letters finals rows.now x y lefts.now rights.now) result }
 {
     let test = check_test(states, letters, finals, rows, x, y, lefts, rights);
     if let Verdict::Against(number) = test {

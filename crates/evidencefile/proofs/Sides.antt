@@ -1,20 +1,20 @@
 -- The two sides of a list of pairs as they alternate in a file: their numbers and bytes, and the sides found again.
 use Prim.Native.Nat.{ℕ, zero, suc, ◌+◌, ◌*◌, ◌<◌, ◌≤◌}
 use mathlib.Core.List.{List, [], ◌∷◌, ◌++◌}
-use mathlib.Core.Path.{◌≡◌, refl, sym, ap, ap₂, ◌∙◌}
+use mathlib.Core.Path.{◌≡◌, refl, sym, ap, ◌∙◌}
 use native.Mathlib.Numerals.{add-one}
 use native.Mathlib.Omega.{arith}
 use lib.ListN.{length, drop, get_or, length-append, drop_of_length-le}
 use lib.Seq.{drop-cons}
 use Rattle.numbers.specs.Numbers.{encode}
-use Rattle.numbers.specs.Format.{encodeAll}
+use Rattle.numbers.specs.Format.{encode_all}
 use Rattle.evidencefile.specs.EvidenceFile.{alternating}
 
-pub alternating-length : (ls rs : List ℕ) → length ls ≡ length rs → length (alternating ls rs) ≡ 2 * length ls
+pub alternating_length : (ls rs : List ℕ) → length ls ≡ length rs → length (alternating ls rs) ≡ 2 * length ls
 unfolding alternating
-alternating-length [] rs e = refl
-alternating-length (l ∷ ls) [] e = absurd (omega (arith, e))
-alternating-length (l ∷ ls) (r ∷ rs) e = omega (arith, alternating-length ls rs (omega (arith, e)))
+alternating_length [] rs e = refl
+alternating_length (l ∷ ls) [] e = absurd (omega (arith, e))
+alternating_length (l ∷ ls) (r ∷ rs) e = omega (arith, alternating_length ls rs (omega (arith, e)))
 
 -- ---- the sides found again
 
@@ -22,8 +22,8 @@ alternating-length (l ∷ ls) (r ∷ rs) e = omega (arith, alternating-length ls
 pub record Split (ls rs : List ℕ) (l r : ℕ) (vs : List ℕ) : Type 0 where
   pub lefts : List ℕ
   pub rights : List ℕ
-  pub are-lefts : ls ≡ l ∷ lefts
-  pub are-rights : rs ≡ r ∷ rights
+  pub are_lefts : ls ≡ l ∷ lefts
+  pub are_rights : rs ≡ r ∷ rights
   pub paired : length lefts ≡ length rights
   pub rest : vs ≡ alternating lefts rights
 
@@ -35,35 +35,35 @@ split (a ∷ ls) (b ∷ rs) l r vs e h =
     let x : a ≡ l = cc in
     let y : b ≡ r = cc in
     let t : vs ≡ alternating ls rs = cc in
-    record { lefts = ls; rights = rs; are-lefts = rw x refl; are-rights = rw y refl; paired = omega (arith, e); rest = t }
+    record { lefts = ls; rights = rs; are_lefts = rw x refl; are_rights = rw y refl; paired = omega (arith, e); rest = t }
 
-pub no-sides : (ls rs : List ℕ) → length ls ≡ length rs → alternating ls rs ≡ [] → (ls ≡ []) × (rs ≡ [])
+pub no_sides : (ls rs : List ℕ) → length ls ≡ length rs → alternating ls rs ≡ [] → (ls ≡ []) × (rs ≡ [])
 unfolding alternating
-no-sides [] [] e h = (refl, refl)
-no-sides [] (r ∷ rs) e h = absurd (omega (arith, e))
-no-sides (l ∷ ls) [] e h = absurd (omega (arith, e))
-no-sides (l ∷ ls) (r ∷ rs) e h = absurd (omega (arith, ap length h))
+no_sides [] [] e h = (refl, refl)
+no_sides [] (r ∷ rs) e h = absurd (omega (arith, e))
+no_sides (l ∷ ls) [] e h = absurd (omega (arith, e))
+no_sides (l ∷ ls) (r ∷ rs) e h = absurd (omega (arith, ap length h))
 
-pub same-sides : (ls rs ls' rs' : List ℕ) → length ls ≡ length rs → length ls' ≡ length rs' → alternating ls rs ≡ alternating ls' rs' → (ls ≡ ls') × (rs ≡ rs')
+pub same_sides : (ls rs ls' rs' : List ℕ) → length ls ≡ length rs → length ls' ≡ length rs' → alternating ls rs ≡ alternating ls' rs' → (ls ≡ ls') × (rs ≡ rs')
 unfolding alternating
-same-sides [] rs ls' rs' e e' h = let a = no-sides [] rs e refl in let b = no-sides ls' rs' e' (sym h) in (sym b.0, a.1 ∙ sym b.1)
-same-sides (l ∷ ls) [] ls' rs' e e' h = absurd (omega (arith, e))
-same-sides (l ∷ ls) (r ∷ rs) ls' rs' e e' h =
+same_sides [] rs ls' rs' e e' h = let a = no_sides [] rs e refl in let b = no_sides ls' rs' e' (sym h) in (sym b.0, a.1 ∙ sym b.1)
+same_sides (l ∷ ls) [] ls' rs' e e' h = absurd (omega (arith, e))
+same_sides (l ∷ ls) (r ∷ rs) ls' rs' e e' h =
     let s : Split ls' rs' l r (alternating ls rs) = split ls' rs' l r (alternating ls rs) e' (sym h) in
-    let (a, b) = same-sides ls rs s.lefts s.rights (omega (arith, e)) s.paired s.rest in
-    (ap (λ (t : List ℕ). l ∷ t) a ∙ sym s.are-lefts, ap (λ (t : List ℕ). r ∷ t) b ∙ sym s.are-rights)
+    let (a, b) = same_sides ls rs s.lefts s.rights (omega (arith, e)) s.paired s.rest in
+    (ap (λ (t : List ℕ). l ∷ t) a ∙ sym s.are_lefts, ap (λ (t : List ℕ). r ∷ t) b ∙ sym s.are_rights)
 
 -- an even number of numbers is the two sides of so many pairs
 pub record Parted (m : ℕ) (us : List ℕ) : Type 0 where
   pub lefts : List ℕ
   pub rights : List ℕ
-  pub lefts-are : length lefts ≡ m
-  pub rights-are : length rights ≡ m
+  pub lefts_are : length lefts ≡ m
+  pub rights_are : length rights ≡ m
   pub all : us ≡ alternating lefts rights
 
 pub parted : (m : ℕ) (us : List ℕ) → length us ≡ 2 * m → Parted m us
 unfolding alternating
-parted zero [] e = record { lefts = []; rights = []; lefts-are = refl; rights-are = refl; all = refl }
+parted zero [] e = record { lefts = []; rights = []; lefts_are = refl; rights_are = refl; all = refl }
 parted zero (u ∷ us) e = absurd (omega (arith, e))
 parted (suc m) [] e = absurd (omega (arith, e))
 parted (suc m) (l ∷ []) e = absurd (omega (arith, e))
@@ -72,34 +72,34 @@ parted (suc m) (l ∷ r ∷ us) e =
     record {
       lefts = l ∷ p.lefts;
       rights = r ∷ p.rights;
-      lefts-are = ap suc p.lefts-are;
-      rights-are = ap suc p.rights-are;
+      lefts_are = ap suc p.lefts_are;
+      rights_are = ap suc p.rights_are;
       all = ap (λ (t : List ℕ). l ∷ r ∷ t) p.all;
     }
 
 -- ---- their bytes
 
-pub sides-size : (ls rs : List ℕ) → length ls ≡ length rs → length (encodeAll (alternating ls rs)) ≡ length (encodeAll ls) + length (encodeAll rs)
-unfolding alternating encodeAll
-sides-size [] [] e = refl
-sides-size [] (r ∷ rs) e = absurd (omega (arith, e))
-sides-size (l ∷ ls) [] e = absurd (omega (arith, e))
-sides-size (l ∷ ls) (r ∷ rs) e =
+pub sides_size : (ls rs : List ℕ) → length ls ≡ length rs → length (encode_all (alternating ls rs)) ≡ length (encode_all ls) + length (encode_all rs)
+unfolding alternating encode_all
+sides_size [] [] e = refl
+sides_size [] (r ∷ rs) e = absurd (omega (arith, e))
+sides_size (l ∷ ls) [] e = absurd (omega (arith, e))
+sides_size (l ∷ ls) (r ∷ rs) e =
     omega (
       arith,
-      sides-size ls rs (omega (arith, e)),
-      length-append (encode l) (encode r ++ encodeAll (alternating ls rs)),
-      length-append (encode r) (encodeAll (alternating ls rs)),
-      length-append (encode l) (encodeAll ls),
-      length-append (encode r) (encodeAll rs),
+      sides_size ls rs (omega (arith, e)),
+      length-append (encode l) (encode r ++ encode_all (alternating ls rs)),
+      length-append (encode r) (encode_all (alternating ls rs)),
+      length-append (encode l) (encode_all ls),
+      length-append (encode r) (encode_all rs),
     )
 
 -- what is left of the pairs is the next one and what is left then
-pub pairs-step : (ls rs : List ℕ) (i : ℕ) → i < length ls → length ls ≡ length rs
-    → encodeAll (alternating (drop i ls) (drop i rs)) ≡ encode (get_or ls i 0) ++ (encode (get_or rs i 0) ++ encodeAll (alternating (drop (i + 1) ls) (drop (i + 1) rs)))
-unfolding alternating encodeAll
-pairs-step ls rs i h e = rw (drop-cons ls i 0 h, drop-cons rs i 0 (omega (arith, h, e)), add-one) refl
+pub pairs_step : (ls rs : List ℕ) (i : ℕ) → i < length ls → length ls ≡ length rs
+    → encode_all (alternating (drop i ls) (drop i rs)) ≡ encode (get_or ls i 0) ++ (encode (get_or rs i 0) ++ encode_all (alternating (drop (i + 1) ls) (drop (i + 1) rs)))
+unfolding alternating encode_all
+pairs_step ls rs i h e = rw (drop-cons ls i 0 h, drop-cons rs i 0 (omega (arith, h, e)), add-one) refl
 
-pub pairs-none : (ls rs : List ℕ) (i : ℕ) → length ls ≤ i → encodeAll (alternating (drop i ls) (drop i rs)) ≡ []
-unfolding alternating encodeAll
-pairs-none ls rs i h = rw (drop_of_length-le ls h) refl
+pub pairs_none : (ls rs : List ℕ) (i : ℕ) → length ls ≤ i → encode_all (alternating (drop i ls) (drop i rs)) ≡ []
+unfolding alternating encode_all
+pairs_none ls rs i h = rw (drop_of_length-le ls h) refl

@@ -3,12 +3,12 @@
 
 ghost use Rattle.std.specs.Prelude.{◌≡◌, ◌+◌, ◌≤◌, length};
 ghost use Rattle.lent.specs.Lent.{Put};
-ghost use Rattle.numbers.specs.Numbers.{numberAt};
-ghost use Rattle.numbers.specs.Format.{heldTo, reading, encodeAll};
-ghost use Rattle.evidence.specs.Evidence.{offerOf, ValidOffer};
-ghost use Rattle.evidencefile.specs.EvidenceFile.{countTest, pairRoomTest, pairsFormat, alternating, fileBytes, listsOf};
+ghost use Rattle.numbers.specs.Numbers.{number_at};
+ghost use Rattle.numbers.specs.Format.{held_to, reading, encode_all};
+ghost use Rattle.evidence.specs.Evidence.{offer_of, ValidOffer};
+ghost use Rattle.evidencefile.specs.EvidenceFile.{count_test, pair_room_test, pairs_format, alternating, file_bytes, lists_of};
 ghost use Rattle.evidencefile.specs.Reader.{Reads};
-ghost use Rattle.evidencefile.specs.Writer.{writeTest, Writes};
+ghost use Rattle.evidencefile.specs.Writer.{write_test, Writes};
 ghost use Rattle.evidencefile.specs.Parts.{counted, FilledPairs};
 
 use numbers::{Number, NumberRead};
@@ -43,23 +43,23 @@ fn wide(v: usize) -> u64
 }
 
 // BAD-LIST: at most as many pairs as the largest room.
-#[tactic(auto, unfolding(crate::specs::EvidenceFile::countTest))]
+#[tactic(auto, unfolding(crate::specs::EvidenceFile::count_test))]
 fn count_test(pairs: usize) -> Verdict
-    ensures { result ≡ countTest pairs }
+    ensures { result ≡ count_test pairs }
 {
     verdict::need(pairs <= States::MAX_ROOM, 16)
 }
 
 // NO-ROOM: both side buffers have room for so many numbers.
-#[tactic(auto, unfolding(crate::specs::EvidenceFile::pairRoomTest))]
+#[tactic(auto, unfolding(crate::specs::EvidenceFile::pair_room_test))]
 fn pair_room_test(lefts: usize, rights: usize, pairs: usize) -> Verdict
-    ensures { result ≡ pairRoomTest lefts rights pairs }
+    ensures { result ≡ pair_room_test lefts rights pairs }
 {
     verdict::need((pairs <= lefts) & (pairs <= rights), 14)
 }
 
 fn read_count(bytes: &[u8], at: usize) -> Number
-    ensures { result ≡ heldTo countTest at (numberAt bytes.now at) }
+    ensures { result ≡ held_to count_test at (number_at bytes.now at) }
 {
     match numbers::read(bytes, at) {
         NumberRead::Done(v, took) => numbers::ruled(count_test(index(v)), at, v, at + took),
@@ -69,7 +69,7 @@ fn read_count(bytes: &[u8], at: usize) -> Number
 
 // The first pass behind the pattern's numbers: the count and the pairs, for side buffers of so many numbers; bytes after them are not looked at.
 fn judge_pairs(bytes: &[u8], at: usize, states: usize, lefts: usize, rights: usize) -> Number
-    ensures { result ≡ counted (reading (pairsFormat states lefts rights) bytes.now at) }
+    ensures { result ≡ counted (reading (pairs_format states lefts rights) bytes.now at) }
 {
     let count_read = read_count(bytes, at);
     let Number::Value(count, at_pairs) = count_read else {
@@ -114,7 +114,7 @@ fn fill_pairs(bytes: &[u8], at: usize, lefts: &mut [u64], rights: &mut [u64], co
 
 // Reads an evidence file. The rows stand where they stand in a pattern file, and the pairs behind the pattern's numbers and the count.
 pub fn read(bytes: &[u8], rows: &mut [u64], lefts: &mut [u64], rights: &mut [u64]) -> EvidenceRead
-    ensures { Reads bytes.now (listsOf rows.old lefts.old rights.old) result (listsOf rows.new lefts.new rights.new) }
+    ensures { Reads bytes.now (lists_of rows.old lefts.old rights.old) result (lists_of rows.new lefts.new rights.new) }
 {
     let part = patternfile::judge(bytes, rows.len());
     match part {
@@ -163,8 +163,8 @@ fn file_size(
     lefts: &[u64],
     rights: &[u64],
 ) -> usize
-    requires { ValidOffer (offerOf states letters finals rows.now x y lefts.now rights.now) }
-    ensures { result ≡ length (fileBytes (offerOf states letters finals rows.now x y lefts.now rights.now)) }
+    requires { ValidOffer (offer_of states letters finals rows.now x y lefts.now rights.now) }
+    ensures { result ≡ length (file_bytes (offer_of states letters finals rows.now x y lefts.now rights.now)) }
 {
     let part = patternfile::file_size(states, letters, finals, rows, x, y);
     let count = numbers::size(wide(lefts.len()));
@@ -183,7 +183,7 @@ fn write_test(
     rights: &[u64],
     room: usize,
 ) -> Verdict
-    ensures { result ≡ writeTest (offerOf states letters finals rows.now x y lefts.now rights.now) room }
+    ensures { result ≡ write_test (offer_of states letters finals rows.now x y lefts.now rights.now) room }
 {
     let offer = evidence::check_test(states, letters, finals, rows, x, y, lefts, rights);
     let Verdict::Fine = offer else {
@@ -196,8 +196,8 @@ fn write_test(
 // Puts left and right of each pair from a place on, and returns the place after them.
 fn put_pairs(out: &mut [u8], at: usize, lefts: &[u64], rights: &[u64]) -> usize
     requires sides_match { length lefts.now ≡ length rights.now }
-    requires enough { at + length (encodeAll (alternating lefts.now rights.now)) ≤ length out.old }
-    ensures { Put out.old at (encodeAll (alternating lefts.now rights.now)) result out.new }
+    requires enough { at + length (encode_all (alternating lefts.now rights.now)) ≤ length out.old }
+    ensures { Put out.old at (encode_all (alternating lefts.now rights.now)) result out.new }
 {
     let mut place = at;
     let mut i: usize = 0;
@@ -221,7 +221,7 @@ pub fn write(
     rights: &[u64],
     out: &mut [u8],
 ) -> Written
-    ensures { Writes (offerOf states letters finals rows.now x y lefts.now rights.now) out.old result out.new }
+    ensures { Writes (offer_of states letters finals rows.now x y lefts.now rights.now) out.old result out.new }
 {
     let test = write_test(
         states,

@@ -6,14 +6,14 @@ use Prim.Native.Nat.{ℕ, zero, suc, ◌+◌, ◌*◌, ◌^◌, ◌≤◌, ◌<�
 use native.Mathlib.Omega.{arith}
 use lib.ListN.{length, get_or, replicate}
 use lib.Bits.{bit_or, or_zero_l}
-use Rattle.expressions.specs.Positions.{when, first, last, linked, follow, named, finalsOf, second, states}
+use Rattle.expressions.specs.Positions.{when, first, last, linked, follow, named, finals_of, second, states}
 use Rattle.expressions.specs.Pieces.{Linked}
 use Rattle.expressions.specs.Both.{Whole, Filled}
 use Rattle.expressions.specs.Answers.{Built}
-use Rattle.expressions.specs.Both.{Blank, finalsFrom}
+use Rattle.expressions.specs.Both.{Blank, finals_from}
 use Rattle.expressions.specs.declared.Piece.{Piece}
-use Rattle.expressions.proofs.Tables.{nextBoth, namedBoth, filled-together}
-use Rattle.expressions.proofs.Refusals.{fine, at-second, after-second, second-fine}
+use Rattle.expressions.proofs.Tables.{next_both, named_both, filled_together}
+use Rattle.expressions.proofs.Refusals.{fine, at_second, after_second, second_fine}
 
 pub zeros : (n s : ℕ) → ◌≡◌ {A = ℕ} (get_or {A = ℕ} (replicate n 0) s 0) 0
 zeros zero s = refl
@@ -23,53 +23,53 @@ zeros (suc n) (suc s) = zeros n s
 module _ {one two : List ℕ} {fs₀ fs₁ fs₂ fs₃ fs₄ ns₀ ns₁ ns₂ : List ℕ} (x y : Piece) {start : ℕ} (b : start ≡ 2 ^ x.used)
     (k : Blank fs₀ ns₀) (w : Whole one 1 fs₀ fs₁ ns₀ ns₁ x) (v : Whole two (x.used + 1) fs₁ fs₂ ns₁ ns₂ y)
     (l : Linked 1 x.first 64 fs₂ fs₃) (m : Linked start y.first 64 fs₃ fs₄) where
-  start-is : start ≡ 2 ^ second w.tree
-  start-is = b ∙ ap (λ (z : ℕ). 2 ^ z) (at-second w)
+  start_is : start ≡ 2 ^ second w.tree
+  start_is = b ∙ ap (λ (z : ℕ). 2 ^ z) (at_second w)
 
-  follows : (s : ℕ) → s < 64 → get_or fs₄ s 0 ≡ nextBoth w.tree v.tree s
-  unfolding nextBoth
+  follows : (s : ℕ) → s < 64 → get_or fs₄ s 0 ≡ next_both w.tree v.tree s
+  unfolding next_both
   follows s h =
       m.entry s h
       ∙ ap₂ bit_or
       (l.entry s h
       ∙ ap₂ bit_or
-      (v.follow-is s h
-      ∙ ap₂ bit_or (w.follow-is s h ∙ ap (λ (z : ℕ). bit_or z (follow w.tree 1 s)) (k.follow s) ∙ or_zero_l _)
-      (ap (λ (z : ℕ). follow v.tree z s) (after-second w)))
-      (ap (linked 1 s) w.first-is))
-      (ap₂ (λ (a c : ℕ). linked a s c) start-is (v.first-is ∙ ap (first v.tree) (after-second w)))
+      (v.follow_is s h
+      ∙ ap₂ bit_or (w.follow_is s h ∙ ap (λ (z : ℕ). bit_or z (follow w.tree 1 s)) (k.follow s) ∙ or_zero_l _)
+      (ap (λ (z : ℕ). follow v.tree z s) (after_second w)))
+      (ap (linked 1 s) w.first_is))
+      (ap₂ (λ (a c : ℕ). linked a s c) start_is (v.first_is ∙ ap (first v.tree) (after_second w)))
 
-  names : (a : ℕ) → a < 32 → get_or ns₂ a 0 ≡ namedBoth w.tree v.tree a
-  unfolding namedBoth
+  names : (a : ℕ) → a < 32 → get_or ns₂ a 0 ≡ named_both w.tree v.tree a
+  unfolding named_both
   names a h =
-      v.named-is a h
-      ∙ ap₂ bit_or (w.named-is a h ∙ ap (λ (z : ℕ). bit_or z (named w.tree 1 a)) (k.named a) ∙ or_zero_l _)
-      (ap (λ (z : ℕ). named v.tree z a) (after-second w))
+      v.named_is a h
+      ∙ ap₂ bit_or (w.named_is a h ∙ ap (λ (z : ℕ). bit_or z (named w.tree 1 a)) (k.named a) ∙ or_zero_l _)
+      (ap (λ (z : ℕ). named v.tree z a) (after_second w))
 
-  finals-are : finalsFrom x y start ≡ bit_or (finalsOf w.tree 0) (finalsOf v.tree (second w.tree))
-  unfolding finalsFrom finalsOf
-  finals-are =
-      ap₂ bit_or (ap₂ bit_or w.last-is (ap (λ (z : Bool). when z 1) w.null-is))
-      (ap₂ bit_or (v.last-is ∙ ap (last v.tree) (after-second w)) (ap₂ when v.null-is start-is))
+  finals_are : finals_from x y start ≡ bit_or (finals_of w.tree 0) (finals_of v.tree (second w.tree))
+  unfolding finals_from finals_of
+  finals_are =
+      ap₂ bit_or (ap₂ bit_or w.last_is (ap (λ (z : Bool). when z 1) w.null_is))
+      (ap₂ bit_or (v.last_is ∙ ap (last v.tree) (after_second w)) (ap₂ when v.null_is start_is))
 
   count : y.used ≡ states w.tree v.tree
   count = omega (arith, w.states, v.states)
 
-  pub built : (rows rows' : List ℕ) (fin : ℕ) → fin ≡ finalsFrom x y start → Filled (y.used * 32) fs₄ ns₂ rows rows' → y.used * 32 ≤ length rows
+  pub built : (rows rows' : List ℕ) (fin : ℕ) → fin ≡ finals_from x y start → Filled (y.used * 32) fs₄ ns₂ rows rows' → y.used * 32 ≤ length rows
       → Built one two rows rows' y.used fin 1 start
   built rows rows' fin g h t =
       record {
         left = w.tree;
         right = v.tree;
-        one-is = fine w;
-        two-is = second-fine w v;
+        one_is = fine w;
+        two_is = second_fine w v;
         count = count;
         few = v.room;
         together =
-            filled-together w.tree v.tree fs₄ ns₂ rows rows' fin (omega (arith, count, v.room))
-            (subst (λ (z : ℕ). Filled (z * 32) fs₄ ns₂ rows rows') count h) follows names (g ∙ finals-are);
-        first-start = refl;
-        second-start = start-is;
+            filled_together w.tree v.tree fs₄ ns₂ rows rows' fin (omega (arith, count, v.room))
+            (subst (λ (z : ℕ). Filled (z * 32) fs₄ ns₂ rows rows') count h) follows names (g ∙ finals_are);
+        first_start = refl;
+        second_start = start_is;
         fits = t;
         long = h.long;
         rest = h.rest;

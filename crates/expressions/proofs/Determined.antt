@@ -9,52 +9,52 @@ use lib.Seq.{ext_get_or}
 use Rattle.expressions.specs.Expressions.{Expr}
 use Rattle.expressions.specs.Positions.{second, states, Together}
 use Rattle.expressions.specs.Answers.{Fine, FineSecond, WrongSecond, FirstSecond, Refusal, Built, Expressed}
-use Rattle.expressions.specs.Answers.Refusal.{firstText, secondText, noRoom}
+use Rattle.expressions.specs.Answers.Refusal.{first_text, second_text, no_room}
 use Rattle.expressions.specs.Languages.{Answered}
 use Rattle.expressions.specs.Meaning.{Expressible}
 use Rattle.expressions.specs.declared.Answer.{Answer}
 use Rattle.expressions.specs.declared.Answer.TheVariants.{Done, Refused}
-use Rattle.expressions.proofs.Faults.{one-first, one-meaning}
+use Rattle.expressions.proofs.Faults.{one_first, one_meaning}
 
 module _ (one two rows : List ℕ) where
-  same-tree : {e f : Expr} → Fine one 1 e → Fine one 1 f → e ≡ f
-  same-tree {e} {f} p q = one-meaning one e f p.means q.means
+  same_tree : {e f : Expr} → Fine one 1 e → Fine one 1 f → e ≡ f
+  same_tree {e} {f} p q = one_meaning one e f p.means q.means
 
   -- nothing is wrong with the second text, and something is
   clash : {e e' f : Expr} {n p : ℕ} → Fine one 1 e → Fine one 1 e' → FineSecond two (second e') f → FirstSecond two (second e) n p → ⊥
-  clash {e} {e'} {n = n} {p} a b c d = c.faultless n p (subst (λ (z : Expr). WrongSecond two (second z) n p) (same-tree a b) d.wrong)
+  clash {e} {e'} {n = n} {p} a b c d = c.faultless n p (subst (λ (z : Expr). WrongSecond two (second z) n p) (same_tree a b) d.wrong)
 
   pub refusals : {n p t n' p' t' : ℕ} → Refusal one two rows n p t → Refusal one two rows n' p' t' → Refused n p t ≡ Refused n' p' t'
-  refusals (firstText {number = n} {place = p} f) (firstText {number = m} {place = q} g) =
-      let k = one-first f g in ap₂ (λ (x y : ℕ). Refused x y 1) k.0 k.1
-  refusals (firstText {number = n} {place = p} f) (secondText a b) = absurd (a.faultless n p f.wrong)
-  refusals (firstText {number = n} {place = p} f) (noRoom a b l) = absurd (a.faultless n p f.wrong)
-  refusals (secondText a b) (firstText {number = n} {place = p} f) = absurd (a.faultless n p f.wrong)
-  refusals (secondText {number = n} {place = p} {e} a b) (secondText {number = m} {place = q} {e = e'} c d) =
-      let k = one-first b (subst (λ (z : Expr). FirstSecond two (second z) m q) (same-tree c a) d) in
+  refusals (first_text {number = n} {place = p} f) (first_text {number = m} {place = q} g) =
+      let k = one_first f g in ap₂ (λ (x y : ℕ). Refused x y 1) k.0 k.1
+  refusals (first_text {number = n} {place = p} f) (second_text a b) = absurd (a.faultless n p f.wrong)
+  refusals (first_text {number = n} {place = p} f) (no_room a b l) = absurd (a.faultless n p f.wrong)
+  refusals (second_text a b) (first_text {number = n} {place = p} f) = absurd (a.faultless n p f.wrong)
+  refusals (second_text {number = n} {place = p} {e} a b) (second_text {number = m} {place = q} {e = e'} c d) =
+      let k = one_first b (subst (λ (z : Expr). FirstSecond two (second z) m q) (same_tree c a) d) in
       ap₂ (λ (x y : ℕ). Refused x y 2) k.0 k.1
-  refusals (secondText a b) (noRoom c d l) = absurd (clash a c d b)
-  refusals (noRoom a b l) (firstText {number = n} {place = p} f) = absurd (a.faultless n p f.wrong)
-  refusals (noRoom a b l) (secondText c d) = absurd (clash c a b d)
-  refusals (noRoom a b l) (noRoom c d m) = refl
+  refusals (second_text a b) (no_room c d l) = absurd (clash a c d b)
+  refusals (no_room a b l) (first_text {number = n} {place = p} f) = absurd (a.faultless n p f.wrong)
+  refusals (no_room a b l) (second_text c d) = absurd (clash c a b d)
+  refusals (no_room a b l) (no_room c d m) = refl
 
-  same-both : {e e' f f' : Expr} → Fine one 1 e → Fine one 1 e' → FineSecond two (second e) f → FineSecond two (second e') f' → (e ≡ e') × (f ≡ f')
-  same-both {f = f} {f'} a b c d = (same-tree a b, one-meaning two f f' c.means d.means)
+  same_both : {e e' f f' : Expr} → Fine one 1 e → Fine one 1 e' → FineSecond two (second e) f → FineSecond two (second e') f' → (e ≡ e') × (f ≡ f')
+  same_both {f = f} {f'} a b c d = (same_tree a b, one_meaning two f f' c.means d.means)
 
   pub expressible : {rows' : List ℕ} {n x y z : ℕ} → Built one two rows rows' n x y z → Expressible one two (length rows)
-  expressible b = record { left = b.left; right = b.right; one-is = b.one-is; two-is = b.two-is; enough = omega (arith, b.count, b.fits) }
+  expressible b = record { left = b.left; right = b.right; one_is = b.one_is; two_is = b.two_is; enough = omega (arith, b.count, b.fits) }
 
   -- what can be made a pattern is not refused
-  pub not-refused : {p q t : ℕ} → Expressible one two (length rows) → Refusal one two rows p q t → ⊥
-  not-refused b (firstText {number = m} {place = q} f) = b.one-is.faultless m q f.wrong
-  not-refused b (secondText a c) = clash a b.one-is b.two-is c
-  not-refused b (noRoom {e} {f} a c m) =
-      let k = same-both a b.one-is c b.two-is in
+  pub not_refused : {p q t : ℕ} → Expressible one two (length rows) → Refusal one two rows p q t → ⊥
+  not_refused b (first_text {number = m} {place = q} f) = b.one_is.faultless m q f.wrong
+  not_refused b (second_text a c) = clash a b.one_is b.two_is c
+  not_refused b (no_room {e} {f} a c m) =
+      let k = same_both a b.one_is c b.two_is in
       omega (arith, b.enough, m, ap₂ states k.0 k.1)
 
   module _ {a b : List ℕ} {n x y z n' x' y' z' : ℕ} (p : Built one two rows a n x y z) (q : Built one two rows b n' x' y' z') where
     trees : (p.left ≡ q.left) × (p.right ≡ q.right)
-    trees = same-both p.one-is q.one-is p.two-is q.two-is
+    trees = same_both p.one_is q.one_is p.two_is q.two_is
 
     moved : Together p.left p.right b x'
     moved = subst (λ (e : Expr). Together e p.right b x') (sym trees.0) (subst (λ (f : Expr). Together q.left f b x') (sym trees.1) q.together)
@@ -62,8 +62,8 @@ module _ (one two rows : List ℕ) where
     counts : n ≡ n'
     counts = p.count ∙ ap₂ states trees.0 trees.1 ∙ sym q.count
 
-    same-rows : a ≡ b
-    same-rows = ext_get_or 0 a b (p.long ∙ sym q.long) (λ i l. go i (dec_lt i (n * 32)))
+    same_rows : a ≡ b
+    same_rows = ext_get_or 0 a b (p.long ∙ sym q.long) (λ i l. go i (dec_lt i (n * 32)))
       where
         at : (i : ℕ) → i < n * 32 → get_or a (i / 32 * 32 + i % 32) 0 ≡ get_or b (i / 32 * 32 + i % 32) 0
         at i l =
@@ -74,20 +74,20 @@ module _ (one two rows : List ℕ) where
         go i (yes l) = subst (λ (j : ℕ). get_or a j 0 ≡ get_or b j 0) (let e : i / 32 * 32 + i % 32 ≡ i = omega arith in e) (at i l)
         go i (no l) = p.rest i (omega arith) ∙ sym (q.rest i (omega (arith, counts)))
 
-    same-answer : Done n x y z ≡ Done n' x' y' z'
-    same-answer =
+    same_answer : Done n x y z ≡ Done n' x' y' z'
+    same_answer =
         let f : x ≡ x' = p.together.final ∙ sym moved.final in
-        let g : y ≡ y' = p.first-start ∙ sym q.first-start in
-        let h : z ≡ z' = p.second-start ∙ ap (λ (e : Expr). 2 ^ second e) trees.0 ∙ sym q.second-start in
+        let g : y ≡ y' = p.first_start ∙ sym q.first_start in
+        let h : z ≡ z' = p.second_start ∙ ap (λ (e : Expr). 2 ^ second e) trees.0 ∙ sym q.second_start in
         let k : n ≡ n' = counts in
         cc
 
   -- the statement determines the answer and the rows
   pub determined : (a b : List ℕ) (r s : Answer) → Expressed one two rows a r → Expressed one two rows b s → (r ≡ s) × (a ≡ b)
-  determined a b (Done n x y z) (Done n' x' y' z') p q = (same-answer p q, same-rows p q)
-  determined a b (Done n x y z) (Refused n' p' t') p q = absurd (not-refused (expressible p) q.0)
-  determined a b (Refused n p' t) (Done n' x' y' z') p q = absurd (not-refused (expressible q) p.0)
+  determined a b (Done n x y z) (Done n' x' y' z') p q = (same_answer p q, same_rows p q)
+  determined a b (Done n x y z) (Refused n' p' t') p q = absurd (not_refused (expressible p) q.0)
+  determined a b (Refused n p' t) (Done n' x' y' z') p q = absurd (not_refused (expressible q) p.0)
   determined a b (Refused n p' t) (Refused n' q' t') p q = (refusals p.0 q.0, p.1 ∙ sym q.1)
 
-  pub answer-determined : (a b : List ℕ) (r s : Answer) → Answered one two rows a r → Answered one two rows b s → (r ≡ s) × (a ≡ b)
-  answer-determined a b r s p q = determined a b r s p.0 q.0
+  pub answer_determined : (a b : List ℕ) (r s : Answer) → Answered one two rows a r → Answered one two rows b s → (r ≡ s) × (a ≡ b)
+  answer_determined a b r s p q = determined a b r s p.0 q.0

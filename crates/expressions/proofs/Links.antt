@@ -13,8 +13,8 @@ use Rattle.expressions.specs.Positions.{linked}
 use Rattle.expressions.specs.Pieces.{Linked}
 
 module _ (l f k : ℕ) (fs xs ys : List ℕ) (h : Linked l f k fs xs) where
-  pub linked-in : k < length xs → bit_and (l / 2 ^ k) 1 ≡ 1 → ys ≡ set xs k (bit_or (get_or xs k 0) f) → Linked l f (k + 1) fs ys
-  linked-in i t e = record { long = ap length e ∙ length-set xs k (bit_or (get_or xs k 0) f) ∙ h.long; entry = entry; rest = rest }
+  pub linked_in : k < length xs → bit_and (l / 2 ^ k) 1 ≡ 1 → ys ≡ set xs k (bit_or (get_or xs k 0) f) → Linked l f (k + 1) fs ys
+  linked_in i t e = record { long = ap length e ∙ length-set xs k (bit_or (get_or xs k 0) f) ∙ h.long; entry = entry; rest = rest }
     where
       here : get_or ys k 0 ≡ bit_or (get_or fs k 0) (linked l k f)
       here =
@@ -33,8 +33,8 @@ module _ (l f k : ℕ) (fs xs ys : List ℕ) (h : Linked l f k fs xs) where
       rest s b =
           ap (λ (z : List ℕ). get_or z s 0) e ∙ get_or-set_other xs k s (bit_or (get_or xs k 0) f) 0 (λ j. omega arith) ∙ h.rest s (omega arith)
 
-  pub linked-out : (bit_and (l / 2 ^ k) 1 ≡ 1 → ⊥) → ys ≡ xs → Linked l f (k + 1) fs ys
-  linked-out t e = record { long = ap length e ∙ h.long; entry = entry; rest = λ s b. ap (λ (z : List ℕ). get_or z s 0) e ∙ h.rest s (omega arith) }
+  pub linked_out : (bit_and (l / 2 ^ k) 1 ≡ 1 → ⊥) → ys ≡ xs → Linked l f (k + 1) fs ys
+  linked_out t e = record { long = ap length e ∙ h.long; entry = entry; rest = λ s b. ap (λ (z : List ℕ). get_or z s 0) e ∙ h.rest s (omega arith) }
     where
       here : get_or ys k 0 ≡ bit_or (get_or fs k 0) (linked l k f)
       here =

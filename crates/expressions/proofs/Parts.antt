@@ -18,26 +18,26 @@ use Rattle.expressions.specs.Grammar.Mark.{many, some, maybe}
 use Rattle.expressions.specs.Grammar.Level.{alternation, sequence, factor}
 use Rattle.expressions.specs.Grammar.Reads.{lone, either, single, further, name, marked, group}
 use Rattle.expressions.specs.Grammar.Token.{leaf, mark, bar, open', close'}
-use Rattle.expressions.specs.Texts.{itemAt, pastAt, Passes}
+use Rattle.expressions.specs.Texts.{item_at, past_at, Passes}
 use Rattle.expressions.specs.Texts.Item.{token}
 use Rattle.expressions.specs.Texts.Passes.{here, item}
 use Rattle.expressions.specs.Scan.{Phase, turn, scan}
 use Rattle.expressions.specs.Scan.Phase.{going, halted}
 use Rattle.expressions.specs.Pieces.{Linked, Chained, Parted, decode, Looks, Core, Made}
 use Rattle.expressions.specs.declared.Piece.{Piece}
-use Rattle.sets.proofs.Bits.{union-assoc}
-use Rattle.expressions.proofs.Faults.{scan-append}
-use Rattle.expressions.proofs.Passing.{passes-on, past-le, past-more}
+use Rattle.sets.proofs.Bits.{union_assoc}
+use Rattle.expressions.proofs.Faults.{scan_append}
+use Rattle.expressions.proofs.Passing.{passes_on, past_le, past_more}
 
 -- ---- a token at a place
 
 pub record TokenAt (text : List ℕ) (place past : ℕ) (t : Token) : Type 0 where
   pub inside : place < length text
-  pub item : itemAt text place ≡ token t
-  pub beyond : past ≡ pastAt text place
+  pub item : item_at text place ≡ token t
+  pub beyond : past ≡ past_at text place
 
-pub token-passes : {text : List ℕ} {place past : ℕ} {t : Token} → TokenAt text place past t → Passes text place (t ∷ []) past
-token-passes {text} {place} {past} {t} k = item k.inside k.item (subst (λ (z : ℕ). Passes text (pastAt text place) [] z) (sym k.beyond) here)
+pub token_passes : {text : List ℕ} {place past : ℕ} {t : Token} → TokenAt text place past t → Passes text place (t ∷ []) past
+token_passes {text} {place} {past} {t} k = item k.inside k.item (subst (λ (z : ℕ). Passes text (past_at text place) [] z) (sym k.beyond) here)
 
 -- what comes after it is further on, within the text
 pub record Ahead (text : List ℕ) (place past : ℕ) : Type 0 where
@@ -45,39 +45,39 @@ pub record Ahead (text : List ℕ) (place past : ℕ) : Type 0 where
   pub on : place < past
   pub within : past ≤ length text
 
-pub token-ahead : {text : List ℕ} {place past : ℕ} {t : Token} → TokenAt text place past t → Ahead text place past
-token-ahead {text} {place} k =
-    record { inside = k.inside; on = omega (arith, past-more text place, k.beyond); within = omega (arith, past-le text place k.inside, k.beyond) }
+pub token_ahead : {text : List ℕ} {place past : ℕ} {t : Token} → TokenAt text place past t → Ahead text place past
+token_ahead {text} {place} k =
+    record { inside = k.inside; on = omega (arith, past_more text place, k.beyond); within = omega (arith, past_le text place k.inside, k.beyond) }
 
-pub look-token : {text : List ℕ} {code place past : ℕ} {t : Token} → Looks text code place past → (code ≡ 40 → ⊥) → decode code ≡ token t
+pub look_token : {text : List ℕ} {code place past : ℕ} {t : Token} → Looks text code place past → (code ≡ 40 → ⊥) → decode code ≡ token t
     → TokenAt text place past t
-look-token k f e = record { inside = k.stands f; item = k.item f ∙ e; beyond = k.beyond f }
+look_token k f e = record { inside = k.stands f; item = k.item f ∙ e; beyond = k.beyond f }
 
-pub decode-letter : (c : ℕ) → c < 32 → decode c ≡ token (leaf (letter c))
+pub decode_letter : (c : ℕ) → c < 32 → decode c ≡ token (leaf (letter c))
 unfolding decode
-decode-letter c l = rw (lt-ltb c 32 l) refl
+decode_letter c l = rw (lt-ltb c 32 l) refl
 
 -- ---- one name
 
 module _ {text : List ℕ} {place past d u : ℕ} {fs ns : List ℕ} where
   -- its position o as the machine shifts it
-  pub core-letter : {a o : ℕ} → TokenAt text place past (leaf (letter a)) → a < 32 → u < 64 → length ns ≡ 32 → o ≡ 2 ^ u
+  pub core_letter : {a o : ℕ} → TokenAt text place past (leaf (letter a)) → a < 32 → u < 64 → length ns ≡ 32 → o ≡ 2 ^ u
       → Core factor text place d u fs fs ns (set ns a (bit_or (get_or ns a 0) o)) false o o (u + 1) past
   unfolding size nullable first last follow
-  core-letter {a} {o} k b l h e =
+  core_letter {a} {o} k b l h e =
       record {
         tree = event a;
         tokens = leaf (letter a) ∷ [];
-        passes = token-passes k;
+        passes = token_passes k;
         reads = name (letter a);
         scans = λ n. rw (lt-leb 64 u l, add-one) refl;
         room = omega arith;
         states = refl;
-        null-is = refl;
-        first-is = e;
-        last-is = e;
-        follow-is = λ s m. sym (or_zero_r (get_or fs s 0));
-        named-is = λ x m. names x (ℕ_discrete x a);
+        null_is = refl;
+        first_is = e;
+        last_is = e;
+        follow_is = λ s m. sym (or_zero_r (get_or fs s 0));
+        named_is = λ x m. names x (ℕ_discrete x a);
       }
     where
       names : (x : ℕ) → Dec (x ≡ a) → get_or (set ns a (bit_or (get_or ns a 0) o)) x 0 ≡ bit_or (get_or ns x 0) (named (event a) u x)
@@ -86,40 +86,40 @@ module _ {text : List ℕ} {place past d u : ℕ} {fs ns : List ℕ} where
           unfold named when in
           (rw (ne_eqb x a j) (get_or-set_other ns a x (bit_or (get_or ns a 0) o) 0 j ∙ sym (or_zero_r (get_or ns x 0))))
 
-  pub core-unit : TokenAt text place past (leaf unit) → u ≤ 64 → Core factor text place d u fs fs ns ns true 0 0 u past
+  pub core_unit : TokenAt text place past (leaf unit) → u ≤ 64 → Core factor text place d u fs fs ns ns true 0 0 u past
   unfolding size nullable first last follow named
-  core-unit k l =
+  core_unit k l =
       record {
         tree = one;
         tokens = leaf unit ∷ [];
-        passes = token-passes k;
+        passes = token_passes k;
         reads = name unit;
         scans = λ n. refl;
         room = l;
         states = omega arith;
-        null-is = refl;
-        first-is = refl;
-        last-is = refl;
-        follow-is = λ s b. sym (or_zero_r (get_or fs s 0));
-        named-is = λ a b. sym (or_zero_r (get_or ns a 0));
+        null_is = refl;
+        first_is = refl;
+        last_is = refl;
+        follow_is = λ s b. sym (or_zero_r (get_or fs s 0));
+        named_is = λ a b. sym (or_zero_r (get_or ns a 0));
       }
 
-  pub core-void : TokenAt text place past (leaf void) → u ≤ 64 → Core factor text place d u fs fs ns ns false 0 0 u past
+  pub core_void : TokenAt text place past (leaf void) → u ≤ 64 → Core factor text place d u fs fs ns ns false 0 0 u past
   unfolding size nullable first last follow named
-  core-void k l =
+  core_void k l =
       record {
         tree = nought;
         tokens = leaf void ∷ [];
-        passes = token-passes k;
+        passes = token_passes k;
         reads = name void;
         scans = λ n. refl;
         room = l;
         states = omega arith;
-        null-is = refl;
-        first-is = refl;
-        last-is = refl;
-        follow-is = λ s b. sym (or_zero_r (get_or fs s 0));
-        named-is = λ a b. sym (or_zero_r (get_or ns a 0));
+        null_is = refl;
+        first_is = refl;
+        last_is = refl;
+        follow_is = λ s b. sym (or_zero_r (get_or fs s 0));
+        named_is = λ a b. sym (or_zero_r (get_or ns a 0));
       }
 
 -- ---- spaces before and after a part, and the same part at another level
@@ -137,194 +137,194 @@ module _ {l : Level} {text : List ℕ} {at d u : ℕ} {fs fs' ns ns' : List ℕ}
         scans = k.scans;
         room = k.room;
         states = k.states;
-        null-is = k.null-is;
-        first-is = k.first-is;
-        last-is = k.last-is;
-        follow-is = k.follow-is;
-        named-is = k.named-is;
+        null_is = k.null_is;
+        first_is = k.first_is;
+        last_is = k.last_is;
+        follow_is = k.follow_is;
+        named_is = k.named_is;
       }
 
-  pub core-gap : {on : ℕ} → Passes text to [] on → Core l text at d u fs fs' ns ns' null p q used on
-  core-gap {on} g = moved (subst (λ (z : List Token). Passes text at z on) (append-nil k.tokens) (passes-on k.passes g)) k.reads
+  pub core_gap : {on : ℕ} → Passes text to [] on → Core l text at d u fs fs' ns ns' null p q used on
+  core_gap {on} g = moved (subst (λ (z : List Token). Passes text at z on) (append-nil k.tokens) (passes_on k.passes g)) k.reads
 
-  pub core-after : {from : ℕ} → Passes text from [] at → Core l text from d u fs fs' ns ns' null p q used to
-  core-after g = moved (passes-on g k.passes) k.reads
+  pub core_after : {from : ℕ} → Passes text from [] at → Core l text from d u fs fs' ns ns' null p q used to
+  core_after g = moved (passes_on g k.passes) k.reads
 
-pub core-single : {text : List ℕ} {at d u : ℕ} {fs fs' ns ns' : List ℕ} {null : Bool} {p q used to : ℕ}
+pub core_single : {text : List ℕ} {at d u : ℕ} {fs fs' ns ns' : List ℕ} {null : Bool} {p q used to : ℕ}
     → Core factor text at d u fs fs' ns ns' null p q used to → Core sequence text at d u fs fs' ns ns' null p q used to
-core-single k = moved k k.passes (single k.reads)
+core_single k = moved k k.passes (single k.reads)
 
-pub core-lone : {text : List ℕ} {at d u : ℕ} {fs fs' ns ns' : List ℕ} {null : Bool} {p q used to : ℕ}
+pub core_lone : {text : List ℕ} {at d u : ℕ} {fs fs' ns ns' : List ℕ} {null : Bool} {p q used to : ℕ}
     → Core sequence text at d u fs fs' ns ns' null p q used to → Core alternation text at d u fs fs' ns ns' null p q used to
-core-lone k = moved k k.passes (lone k.reads)
+core_lone k = moved k k.passes (lone k.reads)
 
 -- ---- a mark
 
 module _ {text : List ℕ} {at d u : ℕ} {fs fs' ns ns' : List ℕ} {null : Bool} {p q used to : ℕ}
     (k : Core factor text at d u fs fs' ns ns' null p q used to) where
-  mark-scans : (m : Mark) (n : Bool) → scan (k.tokens ++ (mark m ∷ [])) (going n d u) ≡ going false d used
-  mark-scans m n = scan-append k.tokens (mark m ∷ []) (going n d u) ∙ ap (λ (z : Phase). turn (mark m) z) (k.scans n)
+  mark_scans : (m : Mark) (n : Bool) → scan (k.tokens ++ (mark m ∷ [])) (going n d u) ≡ going false d used
+  mark_scans m n = scan_append k.tokens (mark m ∷ []) (going n d u) ∙ ap (λ (z : Phase). turn (mark m) z) (k.scans n)
 
   -- star and plus lead from the last positions back to the first
   looped : {fs'' : List ℕ} → Linked q p 64 fs' fs'' → (s : ℕ) → s < 64
       → get_or fs'' s 0 ≡ bit_or (get_or fs s 0) (bit_or (follow k.tree u s) (linked (last k.tree u) s (first k.tree u)))
   looped l s b =
-      l.entry s b ∙ ap₂ bit_or (k.follow-is s b) (ap₂ (λ (x y : ℕ). linked x s y) k.last-is k.first-is)
-      ∙ union-assoc (get_or fs s 0) (follow k.tree u s) (linked (last k.tree u) s (first k.tree u))
+      l.entry s b ∙ ap₂ bit_or (k.follow_is s b) (ap₂ (λ (x y : ℕ). linked x s y) k.last_is k.first_is)
+      ∙ union_assoc (get_or fs s 0) (follow k.tree u s) (linked (last k.tree u) s (first k.tree u))
 
-  pub core-star : {fs'' : List ℕ} {past : ℕ} → TokenAt text to past (mark many) → Linked q p 64 fs' fs''
+  pub core_star : {fs'' : List ℕ} {past : ℕ} → TokenAt text to past (mark many) → Linked q p 64 fs' fs''
       → Core factor text at d u fs fs'' ns ns' true p q used past
   unfolding size nullable first last follow named
-  core-star t l =
+  core_star t l =
       record {
         tree = star k.tree;
         tokens = k.tokens ++ (mark many ∷ []);
-        passes = passes-on k.passes (token-passes t);
+        passes = passes_on k.passes (token_passes t);
         reads = marked k.reads many;
-        scans = mark-scans many;
+        scans = mark_scans many;
         room = k.room;
         states = k.states;
-        null-is = refl;
-        first-is = k.first-is;
-        last-is = k.last-is;
-        follow-is = looped l;
-        named-is = k.named-is;
+        null_is = refl;
+        first_is = k.first_is;
+        last_is = k.last_is;
+        follow_is = looped l;
+        named_is = k.named_is;
       }
 
-  pub core-plus : {fs'' : List ℕ} {past : ℕ} → TokenAt text to past (mark some) → Linked q p 64 fs' fs''
+  pub core_plus : {fs'' : List ℕ} {past : ℕ} → TokenAt text to past (mark some) → Linked q p 64 fs' fs''
       → Core factor text at d u fs fs'' ns ns' null p q used past
   unfolding size nullable first last follow named
-  core-plus t l =
+  core_plus t l =
       record {
         tree = plus k.tree;
         tokens = k.tokens ++ (mark some ∷ []);
-        passes = passes-on k.passes (token-passes t);
+        passes = passes_on k.passes (token_passes t);
         reads = marked k.reads some;
-        scans = mark-scans some;
+        scans = mark_scans some;
         room = k.room;
         states = k.states;
-        null-is = k.null-is;
-        first-is = k.first-is;
-        last-is = k.last-is;
-        follow-is = looped l;
-        named-is = k.named-is;
+        null_is = k.null_is;
+        first_is = k.first_is;
+        last_is = k.last_is;
+        follow_is = looped l;
+        named_is = k.named_is;
       }
 
-  pub core-opt : {past : ℕ} → TokenAt text to past (mark maybe) → Core factor text at d u fs fs' ns ns' true p q used past
+  pub core_opt : {past : ℕ} → TokenAt text to past (mark maybe) → Core factor text at d u fs fs' ns ns' true p q used past
   unfolding size nullable first last follow named
-  core-opt t =
+  core_opt t =
       record {
         tree = opt k.tree;
         tokens = k.tokens ++ (mark maybe ∷ []);
-        passes = passes-on k.passes (token-passes t);
+        passes = passes_on k.passes (token_passes t);
         reads = marked k.reads maybe;
-        scans = mark-scans maybe;
+        scans = mark_scans maybe;
         room = k.room;
         states = k.states;
-        null-is = refl;
-        first-is = k.first-is;
-        last-is = k.last-is;
-        follow-is = k.follow-is;
-        named-is = k.named-is;
+        null_is = refl;
+        first_is = k.first_is;
+        last_is = k.last_is;
+        follow_is = k.follow_is;
+        named_is = k.named_is;
       }
 
 -- ---- parentheses
 
-open-scans : (ts : List Token) (n : Bool) (d u used : ℕ) → d < 32 → scan ts (going true (suc d) u) ≡ going false (suc d) used
+open_scans : (ts : List Token) (n : Bool) (d u used : ℕ) → d < 32 → scan ts (going true (suc d) u) ≡ going false (suc d) used
     → scan (open' ∷ (ts ++ (close' ∷ []))) (going n d u) ≡ going false d used
-open-scans ts n d u used l e =
+open_scans ts n d u used l e =
     ap (λ (t : Bool). scan (ts ++ (close' ∷ [])) (cond t halted (going true (suc d) u))) (lt-leb 32 d l)
-    ∙ (scan-append ts (close' ∷ []) (going true (suc d) u) ∙ ap (λ (z : Phase). turn close' z) e)
+    ∙ (scan_append ts (close' ∷ []) (going true (suc d) u) ∙ ap (λ (z : Phase). turn close' z) e)
 
-pub core-group : {text : List ℕ} {place past d u : ℕ} {fs fs' ns ns' : List ℕ} {x : Piece} → TokenAt text place past open' → d < 32
+pub core_group : {text : List ℕ} {place past d u : ℕ} {fs fs' ns ns' : List ℕ} {x : Piece} → TokenAt text place past open' → d < 32
     → Made alternation text past (d + 1) u fs fs' ns ns' x → x.code ≡ 39
     → Core factor text place d u fs fs' ns ns' x.null x.first x.last x.used x.past
 unfolding decode
-core-group {text} {place} {past} {d} {u} {x = x} t l m e =
+core_group {text} {place} {past} {d} {u} {x = x} t l m e =
     let k = m.core in
-    let c : TokenAt text x.place x.past close' = look-token m.looks (λ j. omega arith) (ap decode e) in
+    let c : TokenAt text x.place x.past close' = look_token m.looks (λ j. omega arith) (ap decode e) in
     record {
       tree = k.tree;
       tokens = open' ∷ (k.tokens ++ (close' ∷ []));
-      passes = passes-on (token-passes t) (passes-on k.passes (token-passes c));
+      passes = passes_on (token_passes t) (passes_on k.passes (token_passes c));
       reads = group k.reads;
       scans =
-          λ n. open-scans k.tokens n d u x.used l
+          λ n. open_scans k.tokens n d u x.used l
           (subst (λ (z : ℕ). scan k.tokens (going true z u) ≡ going false z x.used) (add-one d) (k.scans true));
       room = k.room;
       states = k.states;
-      null-is = k.null-is;
-      first-is = k.first-is;
-      last-is = k.last-is;
-      follow-is = k.follow-is;
-      named-is = k.named-is;
+      null_is = k.null_is;
+      first_is = k.first_is;
+      last_is = k.last_is;
+      follow_is = k.follow_is;
+      named_is = k.named_is;
     }
 
 -- ---- one part after another
 
 -- the states of the second part come after those of the first
 module _ {text : List ℕ} {at d u mid : ℕ} {fs fs' fs'' ns ns' ns'' : List ℕ} (x y : Piece) where
-  shift-names : {l l' : Level} (k : Core l text at d u fs fs' ns ns' x.null x.first x.last x.used x.place)
+  shift_names : {l l' : Level} (k : Core l text at d u fs fs' ns ns' x.null x.first x.last x.used x.place)
       (m : Core l' text mid d x.used fs' fs'' ns' ns'' y.null y.first y.last y.used y.place)
       → (a : ℕ) → a < 32 → get_or ns'' a 0 ≡ bit_or (get_or ns a 0) (bit_or (named k.tree u a) (named m.tree (u + size k.tree) a))
-  shift-names k m a b =
-      m.named-is a b ∙ ap₂ bit_or (k.named-is a b) (ap (λ (z : ℕ). named m.tree z a) k.states)
-      ∙ union-assoc (get_or ns a 0) (named k.tree u a) (named m.tree (u + size k.tree) a)
+  shift_names k m a b =
+      m.named_is a b ∙ ap₂ bit_or (k.named_is a b) (ap (λ (z : ℕ). named m.tree z a) k.states)
+      ∙ union_assoc (get_or ns a 0) (named k.tree u a) (named m.tree (u + size k.tree) a)
 
-  shift-follow : {l l' : Level} (k : Core l text at d u fs fs' ns ns' x.null x.first x.last x.used x.place)
+  shift_follow : {l l' : Level} (k : Core l text at d u fs fs' ns ns' x.null x.first x.last x.used x.place)
       (m : Core l' text mid d x.used fs' fs'' ns' ns'' y.null y.first y.last y.used y.place)
       → (s : ℕ) → s < 64 → get_or fs'' s 0 ≡ bit_or (get_or fs s 0) (bit_or (follow k.tree u s) (follow m.tree (u + size k.tree) s))
-  shift-follow k m s b =
-      m.follow-is s b ∙ ap₂ bit_or (k.follow-is s b) (ap (λ (z : ℕ). follow m.tree z s) k.states)
-      ∙ union-assoc (get_or fs s 0) (follow k.tree u s) (follow m.tree (u + size k.tree) s)
+  shift_follow k m s b =
+      m.follow_is s b ∙ ap₂ bit_or (k.follow_is s b) (ap (λ (z : ℕ). follow m.tree z s) k.states)
+      ∙ union_assoc (get_or fs s 0) (follow k.tree u s) (follow m.tree (u + size k.tree) s)
 
-pub core-further : {text : List ℕ} {at d u : ℕ} {fs fs' fs'' fs''' ns ns' ns'' : List ℕ} (x y r : Piece)
+pub core_further : {text : List ℕ} {at d u : ℕ} {fs fs' fs'' fs''' ns ns' ns'' : List ℕ} (x y r : Piece)
     → Core sequence text at d u fs fs' ns ns' x.null x.first x.last x.used x.place
     → Core factor text x.place d x.used fs' fs'' ns' ns'' y.null y.first y.last y.used y.place → Linked x.last y.first 64 fs'' fs''' → Chained x y r
     → Core sequence text at d u fs fs''' ns ns'' r.null r.first r.last r.used r.place
 unfolding size nullable first last follow named
-core-further {text} {at} {d} {u} {fs} {fs'} {fs''} {fs'''} {ns} {ns'} {ns''} x y r k m l c =
+core_further {text} {at} {d} {u} {fs} {fs'} {fs''} {fs'''} {ns} {ns'} {ns''} x y r k m l c =
     record {
       tree = seq k.tree m.tree;
       tokens = k.tokens ++ m.tokens;
-      passes = subst (λ (z : ℕ). Passes text at (k.tokens ++ m.tokens) z) (sym c.place) (passes-on k.passes m.passes);
+      passes = subst (λ (z : ℕ). Passes text at (k.tokens ++ m.tokens) z) (sym c.place) (passes_on k.passes m.passes);
       reads = further k.reads m.reads;
-      scans = λ n. scan-append k.tokens m.tokens (going n d u) ∙ ap (scan m.tokens) (k.scans n) ∙ m.scans false ∙ ap (going false d) (sym c.used);
+      scans = λ n. scan_append k.tokens m.tokens (going n d u) ∙ ap (scan m.tokens) (k.scans n) ∙ m.scans false ∙ ap (going false d) (sym c.used);
       room = omega (arith, m.room, c.used);
       states = omega (arith, m.states, k.states, c.used);
-      null-is = c.null ∙ ap₂ (λ (a b : Bool). a && b) k.null-is m.null-is;
-      first-is = c.first ∙ ap₂ bit_or k.first-is (ap₂ when k.null-is (m.first-is ∙ ap (first m.tree) k.states));
-      last-is = c.last ∙ ap₂ bit_or (ap₂ when m.null-is k.last-is) (m.last-is ∙ ap (last m.tree) k.states);
-      follow-is = follows;
-      named-is = shift-names x y k m;
+      null_is = c.null ∙ ap₂ (λ (a b : Bool). a && b) k.null_is m.null_is;
+      first_is = c.first ∙ ap₂ bit_or k.first_is (ap₂ when k.null_is (m.first_is ∙ ap (first m.tree) k.states));
+      last_is = c.last ∙ ap₂ bit_or (ap₂ when m.null_is k.last_is) (m.last_is ∙ ap (last m.tree) k.states);
+      follow_is = follows;
+      named_is = shift_names x y k m;
     }
   where
     follows : (s : ℕ) → s < 64 → get_or fs''' s 0 ≡ bit_or (get_or fs s 0) (follow (seq k.tree m.tree) u s)
     follows s b =
-        l.entry s b ∙ ap₂ bit_or (shift-follow x y k m s b) (ap₂ (λ (a z : ℕ). linked a s z) k.last-is (m.first-is ∙ ap (first m.tree) k.states))
-        ∙ union-assoc (get_or fs s 0) (bit_or (follow k.tree u s) (follow m.tree (u + size k.tree) s))
+        l.entry s b ∙ ap₂ bit_or (shift_follow x y k m s b) (ap₂ (λ (a z : ℕ). linked a s z) k.last_is (m.first_is ∙ ap (first m.tree) k.states))
+        ∙ union_assoc (get_or fs s 0) (bit_or (follow k.tree u s) (follow m.tree (u + size k.tree) s))
         (linked (last k.tree u) s (first m.tree (u + size k.tree)))
 
-pub core-either : {text : List ℕ} {at d u : ℕ} {fs fs' fs'' ns ns' ns'' : List ℕ} (x y r : Piece)
+pub core_either : {text : List ℕ} {at d u : ℕ} {fs fs' fs'' ns ns' ns'' : List ℕ} (x y r : Piece)
     → Core alternation text at d u fs fs' ns ns' x.null x.first x.last x.used x.place → TokenAt text x.place x.past bar
     → Core sequence text x.past d x.used fs' fs'' ns' ns'' y.null y.first y.last y.used y.place → Parted x y r
     → Core alternation text at d u fs fs'' ns ns'' r.null r.first r.last r.used r.place
 unfolding size nullable first last follow named
-core-either {text} {at} {d} {u} {fs} {fs'} {fs''} {ns} {ns'} {ns''} x y r k t m c =
+core_either {text} {at} {d} {u} {fs} {fs'} {fs''} {ns} {ns'} {ns''} x y r k t m c =
     record {
       tree = alt k.tree m.tree;
       tokens = k.tokens ++ (bar ∷ m.tokens);
       passes =
-          subst (λ (z : ℕ). Passes text at (k.tokens ++ (bar ∷ m.tokens)) z) (sym c.place) (passes-on k.passes (passes-on (token-passes t) m.passes));
+          subst (λ (z : ℕ). Passes text at (k.tokens ++ (bar ∷ m.tokens)) z) (sym c.place) (passes_on k.passes (passes_on (token_passes t) m.passes));
       reads = either k.reads m.reads;
       scans =
-          λ n. scan-append k.tokens (bar ∷ m.tokens) (going n d u) ∙ ap (scan (bar ∷ m.tokens)) (k.scans n) ∙ m.scans true
+          λ n. scan_append k.tokens (bar ∷ m.tokens) (going n d u) ∙ ap (scan (bar ∷ m.tokens)) (k.scans n) ∙ m.scans true
           ∙ ap (going false d) (sym c.used);
       room = omega (arith, m.room, c.used);
       states = omega (arith, m.states, k.states, c.used);
-      null-is = c.null ∙ ap₂ (λ (a b : Bool). a || b) k.null-is m.null-is;
-      first-is = c.first ∙ ap₂ bit_or k.first-is (m.first-is ∙ ap (first m.tree) k.states);
-      last-is = c.last ∙ ap₂ bit_or k.last-is (m.last-is ∙ ap (last m.tree) k.states);
-      follow-is = shift-follow x y k m;
-      named-is = shift-names x y k m;
+      null_is = c.null ∙ ap₂ (λ (a b : Bool). a || b) k.null_is m.null_is;
+      first_is = c.first ∙ ap₂ bit_or k.first_is (m.first_is ∙ ap (first m.tree) k.states);
+      last_is = c.last ∙ ap₂ bit_or k.last_is (m.last_is ∙ ap (last m.tree) k.states);
+      follow_is = shift_follow x y k m;
+      named_is = shift_names x y k m;
     }

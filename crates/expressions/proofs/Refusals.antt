@@ -8,33 +8,33 @@ use lib.ListN.{length}
 use Rattle.expressions.specs.Expressions.{Expr}
 use Rattle.expressions.specs.Positions.{second}
 use Rattle.expressions.specs.Texts.{Wrong, FirstFault, opens, shuts}
-use Rattle.expressions.specs.Texts.Wrong.{misplaced, unknown, unfinished, tooMany, tooDeep}
+use Rattle.expressions.specs.Texts.Wrong.{misplaced, unknown, unfinished, too_many, too_deep}
 use Rattle.expressions.specs.Both.{Whole, Judged}
 use Rattle.expressions.specs.Answers.{Fine, FineSecond, WrongSecond, FirstSecond, Refusal, Expressed}
-use Rattle.expressions.specs.Answers.WrongSecond.{noStart, inText}
+use Rattle.expressions.specs.Answers.WrongSecond.{no_start, in_text}
 use Rattle.expressions.specs.Both.{Crowded}
-use Rattle.expressions.specs.Answers.Refusal.{secondText, noRoom}
+use Rattle.expressions.specs.Answers.Refusal.{second_text, no_room}
 use Rattle.expressions.specs.declared.Piece.{Piece}
 use Rattle.expressions.specs.declared.Part.{Part}
 use Rattle.expressions.specs.declared.Part.TheVariants.{Read, Fault}
 use Rattle.expressions.specs.declared.Answer.{Answer}
 use Rattle.expressions.specs.declared.Answer.TheVariants.{Refused}
-use Rattle.expressions.proofs.Passing.{none-here}
+use Rattle.expressions.proofs.Passing.{none_here}
 
 -- with 64 states taken and with 65 the same things are wrong
 up : {text : List ℕ} {m q : ℕ} → Wrong text 64 m q → Wrong text 65 m q
 up (misplaced r h e v) = misplaced r h e v
 up (unknown r h e) = unknown r h e
 up (unfinished r f) = unfinished r f
-up (tooMany r h e g) = tooMany r h e (omega arith)
-up (tooDeep r h e g) = tooDeep r h e g
+up (too_many r h e g) = too_many r h e (omega arith)
+up (too_deep r h e g) = too_deep r h e g
 
 down : {text : List ℕ} {m q : ℕ} → Wrong text 65 m q → Wrong text 64 m q
 down (misplaced r h e v) = misplaced r h e v
 down (unknown r h e) = unknown r h e
 down (unfinished r f) = unfinished r f
-down (tooMany r h e g) = tooMany r h e (omega arith)
-down (tooDeep r h e g) = tooDeep r h e g
+down (too_many r h e g) = too_many r h e (omega arith)
+down (too_deep r h e g) = too_deep r h e g
 
 -- at place 0 nothing is too deep
 shallow : {text : List ℕ} {taken m q : ℕ} → Wrong text taken m q → q ≡ 0 → m ≤ 31
@@ -42,83 +42,83 @@ unfolding opens shuts
 shallow (misplaced r h e v) j = omega arith
 shallow (unknown r h e) j = omega arith
 shallow (unfinished r f) j = omega arith
-shallow (tooMany r h e g) j = omega arith
-shallow (tooDeep {ts = ts} r h e g) j =
-    let z = none-here r (sym j) in
+shallow (too_many r h e g) j = omega arith
+shallow (too_deep {ts = ts} r h e g) j =
+    let z = none_here r (sym j) in
     absurd (omega (arith, ap opens z, ap shuts z))
 
 module _ (text : List ℕ) where
   -- room for the start
-  pub second-first : (b number place : ℕ) → b < 64 → FirstFault text (suc b) number place → FirstSecond text b number place
-  second-first b number place l f = record { wrong = inText f.wrong; least = least }
+  pub second_first : (b number place : ℕ) → b < 64 → FirstFault text (suc b) number place → FirstSecond text b number place
+  second_first b number place l f = record { wrong = in_text f.wrong; least = least }
     where
       least : (m q : ℕ) → WrongSecond text b m q → (place < q) ⊎ ((place ≡ q) × (number ≤ m))
-      least m q (noStart g) = absurd (omega arith)
-      least m q (inText w) = f.least m q w
+      least m q (no_start g) = absurd (omega arith)
+      least m q (in_text w) = f.least m q w
 
   -- none
-  pub crowded-zero : (number place : ℕ) → place ≡ 0 → FirstFault text 64 number place → FirstSecond text 64 number 0
-  crowded-zero number place z f = record { wrong = inText (up (subst (λ (y : ℕ). Wrong text 64 number y) z f.wrong)); least = least }
+  pub crowded_zero : (number place : ℕ) → place ≡ 0 → FirstFault text 64 number place → FirstSecond text 64 number 0
+  crowded_zero number place z f = record { wrong = in_text (up (subst (λ (y : ℕ). Wrong text 64 number y) z f.wrong)); least = least }
     where
       least : (m q : ℕ) → WrongSecond text 64 m q → (0 < q) ⊎ ((0 ≡ q) × (number ≤ m))
-      least m q (noStart g) = inr (refl, shallow f.wrong z)
-      least m q (inText w) = ⊎_elim (λ l. inl (omega arith)) (λ k. inr (omega (arith, k.0), k.1)) (f.least m q (down w))
+      least m q (no_start g) = inr (refl, shallow f.wrong z)
+      least m q (in_text w) = ⊎_elim (λ l. inl (omega arith)) (λ k. inr (omega (arith, k.0), k.1)) (f.least m q (down w))
 
-  pub crowded-later : (number place : ℕ) → (place ≡ 0 → ⊥) → FirstFault text 64 number place → FirstSecond text 64 31 0
-  crowded-later number place z f = record { wrong = noStart (omega arith); least = least }
+  pub crowded_later : (number place : ℕ) → (place ≡ 0 → ⊥) → FirstFault text 64 number place → FirstSecond text 64 31 0
+  crowded_later number place z f = record { wrong = no_start (omega arith); least = least }
     where
       least : (m q : ℕ) → WrongSecond text 64 m q → (0 < q) ⊎ ((0 ≡ q) × (31 ≤ m))
-      least m q (noStart g) = inr (refl, omega arith)
-      least m q (inText w) = ⊎_elim (λ l. inl (omega arith)) (λ k. inl (omega (arith, k.0))) (f.least m q (down w))
+      least m q (no_start g) = inr (refl, omega arith)
+      least m q (in_text w) = ⊎_elim (λ l. inl (omega arith)) (λ k. inl (omega (arith, k.0))) (f.least m q (down w))
 
-  pub crowded-fine : ((m q : ℕ) → Wrong text 64 m q → ⊥) → FirstSecond text 64 31 0
-  crowded-fine f = record { wrong = noStart (omega arith); least = least }
+  pub crowded_fine : ((m q : ℕ) → Wrong text 64 m q → ⊥) → FirstSecond text 64 31 0
+  crowded_fine f = record { wrong = no_start (omega arith); least = least }
     where
       least : (m q : ℕ) → WrongSecond text 64 m q → (0 < q) ⊎ ((0 ≡ q) × (31 ≤ m))
-      least m q (noStart g) = inr (refl, omega arith)
-      least m q (inText w) = absurd (f m q (down w))
+      least m q (no_start g) = inr (refl, omega arith)
+      least m q (in_text w) = absurd (f m q (down w))
 
 pub fine : {text : List ℕ} {u : ℕ} {fs fs' ns ns' : List ℕ} {x : Piece} (w : Whole text u fs fs' ns ns' x) → Fine text u w.tree
 fine w = record { means = w.means; faultless = w.faultless }
 
-pub fine-second : (text : List ℕ) (b : ℕ) (e : Expr) → b < 64 → Fine text (suc b) e → FineSecond text b e
-fine-second text b e l k = record { means = k.means; faultless = faultless }
+pub fine_second : (text : List ℕ) (b : ℕ) (e : Expr) → b < 64 → Fine text (suc b) e → FineSecond text b e
+fine_second text b e l k = record { means = k.means; faultless = faultless }
   where
     faultless : (m q : ℕ) → WrongSecond text b m q → ⊥
-    faultless m q (noStart g) = omega arith
-    faultless m q (inText w) = k.faultless m q w
+    faultless m q (no_start g) = omega arith
+    faultless m q (in_text w) = k.faultless m q w
 
 -- ---- after a first text that nothing is wrong with
 
 module _ {one fs fs' ns ns' : List ℕ} {x : Piece} (w : Whole one 1 fs fs' ns ns' x) where
-  pub at-second : x.used ≡ second w.tree
-  at-second = omega (arith, w.states)
+  pub at_second : x.used ≡ second w.tree
+  at_second = omega (arith, w.states)
 
-  pub after-second : x.used + 1 ≡ suc (second w.tree)
-  after-second = omega (arith, w.states)
+  pub after_second : x.used + 1 ≡ suc (second w.tree)
+  after_second = omega (arith, w.states)
 
-  pub second-fine : {two gs gs' ms ms' : List ℕ} {y : Piece} (v : Whole two (x.used + 1) gs gs' ms ms' y) → FineSecond two (second w.tree) v.tree
-  second-fine {two} v =
-      fine-second two (second w.tree) v.tree (omega (arith, w.states, v.states, v.room))
-      (subst (λ (z : ℕ). Fine two z v.tree) after-second (fine v))
+  pub second_fine : {two gs gs' ms ms' : List ℕ} {y : Piece} (v : Whole two (x.used + 1) gs gs' ms ms' y) → FineSecond two (second w.tree) v.tree
+  second_fine {two} v =
+      fine_second two (second w.tree) v.tree (omega (arith, w.states, v.states, v.room))
+      (subst (λ (z : ℕ). Fine two z v.tree) after_second (fine v))
 
   module _ {two rows : List ℕ} where
-    pub refuse-second : {n p : ℕ} → x.used < 64 → FirstFault two (x.used + 1) n p → Refusal one two rows n p 2
-    refuse-second {n} {p} l f =
-        secondText (fine w)
-        (second-first two (second w.tree) n p (omega (arith, at-second)) (subst (λ (z : ℕ). FirstFault two z n p) after-second f))
+    pub refuse_second : {n p : ℕ} → x.used < 64 → FirstFault two (x.used + 1) n p → Refusal one two rows n p 2
+    refuse_second {n} {p} l f =
+        second_text (fine w)
+        (second_first two (second w.tree) n p (omega (arith, at_second)) (subst (λ (z : ℕ). FirstFault two z n p) after_second f))
 
-    pub refuse-room : {gs gs' ms ms' : List ℕ} {y : Piece} → Whole two (x.used + 1) gs gs' ms ms' y → length rows < y.used * 32
+    pub refuse_room : {gs gs' ms ms' : List ℕ} {y : Piece} → Whole two (x.used + 1) gs gs' ms ms' y → length rows < y.used * 32
         → Refusal one two rows 14 0 0
-    refuse-room v l = noRoom (fine w) (second-fine v) (omega (arith, w.states, v.states))
+    refuse_room v l = no_room (fine w) (second_fine v) (omega (arith, w.states, v.states))
 
   module _ (two rows hs hs' ms ms' : List ℕ) (l : 64 ≤ x.used) where
-    refuse-start : {n : ℕ} {r : Answer} → r ≡ Refused n 0 2 → FirstSecond two 64 n 0 → Expressed one two rows rows r
-    refuse-start {n} {r} e f =
-        let full : 64 ≡ second w.tree = omega (arith, at-second, w.room) in
-        subst (Expressed one two rows rows) (sym e) (secondText (fine w) (subst (λ (z : ℕ). FirstSecond two z n 0) full f), refl)
+    refuse_start : {n : ℕ} {r : Answer} → r ≡ Refused n 0 2 → FirstSecond two 64 n 0 → Expressed one two rows rows r
+    refuse_start {n} {r} e f =
+        let full : 64 ≡ second w.tree = omega (arith, at_second, w.room) in
+        subst (Expressed one two rows rows) (sym e) (second_text (fine w) (subst (λ (z : ℕ). FirstSecond two z n 0) full f), refl)
 
-    pub refuse-crowded : (b : Part) (r : Answer) → Judged two 64 hs hs' ms ms' b → Crowded b r → Expressed one two rows rows r
-    refuse-crowded (Read y) r j c = refuse-start c (crowded-fine two j.0.faultless)
-    refuse-crowded (Fault n p) r j c =
-        ⊎_elim (λ d. refuse-start d.1 (crowded-zero two n p d.0 j.0)) (λ d. refuse-start d.1 (crowded-later two n p d.0 j.0)) c
+    pub refuse_crowded : (b : Part) (r : Answer) → Judged two 64 hs hs' ms ms' b → Crowded b r → Expressed one two rows rows r
+    refuse_crowded (Read y) r j c = refuse_start c (crowded_fine two j.0.faultless)
+    refuse_crowded (Fault n p) r j c =
+        ⊎_elim (λ d. refuse_start d.1 (crowded_zero two n p d.0 j.0)) (λ d. refuse_start d.1 (crowded_later two n p d.0 j.0)) c

@@ -4,7 +4,7 @@
 --   Refusal one two rows number place text
 --                        how the texts are refused: the first text goes first, and the room for the rows comes last
 --   Built                the pattern that they become
---   Expressed            the answer: the pattern, or a refusal with the rows as they were. It is determined (`answer-determined`)
+--   Expressed            the answer: the pattern, or a refusal with the rows as they were. It is determined (`answer_determined`)
 use Rattle.std.specs.Prelude.{◌≡◌, List, ℕ, suc, ◌*◌, ◌^◌, ◌≤◌, ◌<◌, length, get_or}
 use Rattle.expressions.specs.Expressions.{Expr}
 use Rattle.expressions.specs.Positions.{second, states, Together}
@@ -19,8 +19,8 @@ pub record Fine (text : List ℕ) (taken : ℕ) (e : Expr) : Type 0 where
 
 -- what can be wrong with the second text, whose start is to be state b
 pub data WrongSecond (text : List ℕ) (b : ℕ) : ℕ → ℕ → Type 0 where
-  noStart : 64 ≤ b → WrongSecond text b 31 0
-  inText : {m q : ℕ} → Wrong text (suc b) m q → WrongSecond text b m q
+  no_start : 64 ≤ b → WrongSecond text b 31 0
+  in_text : {m q : ℕ} → Wrong text (suc b) m q → WrongSecond text b m q
 
 pub record FineSecond (text : List ℕ) (b : ℕ) (e : Expr) : Type 0 where
   pub means : Means text e
@@ -31,20 +31,20 @@ FirstSecond text b = FirstOf (WrongSecond text b)
 
 -- number, place and text of a refusal: the first text goes first
 pub data Refusal (one two rows : List ℕ) : ℕ → ℕ → ℕ → Type 0 where
-  firstText : {number place : ℕ} → FirstFault one 1 number place → Refusal one two rows number place 1
-  secondText : {number place : ℕ} {e : Expr} → Fine one 1 e → FirstSecond two (second e) number place → Refusal one two rows number place 2
-  noRoom : {e f : Expr} → Fine one 1 e → FineSecond two (second e) f → length rows < states e f * 32 → Refusal one two rows 14 0 0
+  first_text : {number place : ℕ} → FirstFault one 1 number place → Refusal one two rows number place 1
+  second_text : {number place : ℕ} {e : Expr} → Fine one 1 e → FirstSecond two (second e) number place → Refusal one two rows number place 2
+  no_room : {e f : Expr} → Fine one 1 e → FineSecond two (second e) f → length rows < states e f * 32 → Refusal one two rows 14 0 0
 
 pub record Built (one two rows rows' : List ℕ) (n finals x y : ℕ) : Type 0 where
   pub left : Expr
   pub right : Expr
-  pub one-is : Fine one 1 left
-  pub two-is : FineSecond two (second left) right
+  pub one_is : Fine one 1 left
+  pub two_is : FineSecond two (second left) right
   pub count : n ≡ states left right
   pub few : n ≤ 64
   pub together : Together left right rows' finals
-  pub first-start : x ≡ 1
-  pub second-start : y ≡ 2 ^ second left
+  pub first_start : x ≡ 1
+  pub second_start : y ≡ 2 ^ second left
   pub fits : n * 32 ≤ length rows
   pub long : length rows' ≡ length rows
   pub rest : (i : ℕ) → n * 32 ≤ i → get_or rows' i 0 ≡ get_or rows i 0

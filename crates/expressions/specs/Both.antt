@@ -3,7 +3,7 @@
 --   Blank            tables that nothing has been put into
 --   Whole, Judged    what reading a whole text has found, and what it answers
 --   Crowded          the answer where no state is left for the second start
---   finalsFrom       the final states of both
+--   finals_from      the final states of both
 --   FillAsks, Filled what writing the rows asks, and what it leaves
 use Rattle.std.specs.Prelude.{◌≡◌, ◌⊎◌, List, ℕ, ◌+◌, ◌*◌, ◌/◌, ◌%◌, ◌≤◌, ◌<◌, length, get_or}
 use Rattle.std.specs.Int.Bits.{bit_or, bit_and}
@@ -31,11 +31,11 @@ pub record Whole (text : List ℕ) (taken : ℕ) (fs fs' ns ns' : List ℕ) (x :
   pub faultless : (m q : ℕ) → Wrong text taken m q → ⊥
   pub states : x.used ≡ taken + size tree
   pub room : x.used ≤ 64
-  pub null-is : x.null ≡ nullable tree
-  pub first-is : x.first ≡ first tree taken
-  pub last-is : x.last ≡ last tree taken
-  pub follow-is : (s : ℕ) → s < 64 → get_or fs' s 0 ≡ bit_or (get_or fs s 0) (follow tree taken s)
-  pub named-is : (a : ℕ) → a < 32 → get_or ns' a 0 ≡ bit_or (get_or ns a 0) (named tree taken a)
+  pub null_is : x.null ≡ nullable tree
+  pub first_is : x.first ≡ first tree taken
+  pub last_is : x.last ≡ last tree taken
+  pub follow_is : (s : ℕ) → s < 64 → get_or fs' s 0 ≡ bit_or (get_or fs s 0) (follow tree taken s)
+  pub named_is : (a : ℕ) → a < 32 → get_or ns' a 0 ≡ bit_or (get_or ns a 0) (named tree taken a)
 
 abbrev pub Judged : List ℕ → ℕ → List ℕ → List ℕ → List ℕ → List ℕ → Part → Type 0
 Judged text taken fs fs' ns ns' (Read x) = Whole text taken fs fs' ns ns' x × Longs fs fs' ns ns'
@@ -47,8 +47,8 @@ abbrev pub Crowded : Part → Answer → Type 0
 Crowded (Read x) r = r ≡ Refused 31 0 2
 Crowded (Fault number place) r = ((place ≡ 0) × (r ≡ Refused number 0 2)) ⊎ ((place ≡ 0 → ⊥) × (r ≡ Refused 31 0 2))
 
-unfoldable pub finalsFrom : Piece → Piece → ℕ → ℕ
-finalsFrom x y start = bit_or (bit_or x.last (when x.null 1)) (bit_or y.last (when y.null start))
+unfoldable pub finals_from : Piece → Piece → ℕ → ℕ
+finals_from x y start = bit_or (bit_or x.last (when x.null 1)) (bit_or y.last (when y.null start))
 
 -- ---- the rows
 

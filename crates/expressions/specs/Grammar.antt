@@ -26,15 +26,15 @@ pub data Token : Type 0 where
   open' : Token
   close' : Token
 
-abbrev pub leafOf : Leaf → Expr
-leafOf (letter a) = event a
-leafOf unit = one
-leafOf void = nought
+abbrev pub leaf_of : Leaf → Expr
+leaf_of (letter a) = event a
+leaf_of unit = one
+leaf_of void = nought
 
-abbrev pub markOf : Mark → Expr → Expr
-markOf many e = star e
-markOf some e = plus e
-markOf maybe e = opt e
+abbrev pub mark_of : Mark → Expr → Expr
+mark_of many e = star e
+mark_of some e = plus e
+mark_of maybe e = opt e
 
 -- An alternation is made of sequences, a sequence of factors, and a factor may be an alternation in parentheses; a factor may carry several marks.
 pub data Level : Type 0 where
@@ -47,8 +47,8 @@ pub data Reads : Level → List Token → Expr → Type 0 where
   either : {us vs : List Token} {e f : Expr} → Reads alternation us e → Reads sequence vs f → Reads alternation (us ++ (bar ∷ vs)) (alt e f)
   single : {ts : List Token} {e : Expr} → Reads factor ts e → Reads sequence ts e
   further : {us vs : List Token} {e f : Expr} → Reads sequence us e → Reads factor vs f → Reads sequence (us ++ vs) (seq e f)
-  name : (l : Leaf) → Reads factor (leaf l ∷ []) (leafOf l)
-  marked : {ts : List Token} {e : Expr} → Reads factor ts e → (m : Mark) → Reads factor (ts ++ (mark m ∷ [])) (markOf m e)
+  name : (l : Leaf) → Reads factor (leaf l ∷ []) (leaf_of l)
+  marked : {ts : List Token} {e : Expr} → Reads factor ts e → (m : Mark) → Reads factor (ts ++ (mark m ∷ [])) (mark_of m e)
   group : {ts : List Token} {e : Expr} → Reads alternation ts e → Reads factor (open' ∷ (ts ++ (close' ∷ []))) e
 
 -- the list is right, and this is its expression

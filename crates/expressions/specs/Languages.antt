@@ -1,11 +1,11 @@
 -- What the pattern of two texts accepts: each start exactly the event sequences that its text's expression takes (the scope, §14).
---   madeOf n finals rows      the pattern that the call leaves: n states, 32 letters, the first n * 32 rows of the buffer
+--   made_of n finals rows     the pattern that the call leaves: n states, 32 letters, the first n * 32 rows of the buffer
 --   Speaks P set text         the text is right, and the set accepts exactly the event sequences that its expression takes
 --   Patterned one two ..      a pattern that no call refuses, of 2 states at least, whose two starts speak the two texts
 --   Answered one two ..       what the public call promises
 use Rattle.std.specs.Prelude.{◌≡◌, true, ◌↔◌, List, ℕ, ◌*◌, ◌≤◌, take}
 use Rattle.sets.specs.Sets.{Good}
-use Rattle.pattern.specs.Pattern.{Pattern, patternOf, Valid}
+use Rattle.pattern.specs.Pattern.{Pattern, pattern_of, Valid}
 use Rattle.pattern.specs.Language.{accepts, Over}
 use Rattle.expressions.specs.Expressions.{Expr, Takes}
 use Rattle.expressions.specs.Texts.{Means}
@@ -13,8 +13,8 @@ use Rattle.expressions.specs.Answers.{Expressed}
 use Rattle.expressions.specs.declared.Answer.{Answer}
 use Rattle.expressions.specs.declared.Answer.TheVariants.{Done, Refused}
 
-abbrev pub madeOf : ℕ → ℕ → List ℕ → Pattern
-madeOf n finals rows = patternOf n 32 finals (take (n * 32) rows)
+abbrev pub made_of : ℕ → ℕ → List ℕ → Pattern
+made_of n finals rows = pattern_of n 32 finals (take (n * 32) rows)
 
 pub record Speaks (P : Pattern) (set : ℕ) (text : List ℕ) : Type 0 where
   pub tree : Expr
@@ -22,12 +22,12 @@ pub record Speaks (P : Pattern) (set : ℕ) (text : List ℕ) : Type 0 where
   pub language : (w : List ℕ) → Over 32 w → (accepts P set w ≡ true) ↔ Takes tree w
 
 pub record Patterned (one two rows : List ℕ) (n finals x y : ℕ) : Type 0 where
-  pub valid : Valid (madeOf n finals rows)
-  pub two-starts : 2 ≤ n
-  pub first-good : Good n x
-  pub second-good : Good n y
-  pub first-speaks : Speaks (madeOf n finals rows) x one
-  pub second-speaks : Speaks (madeOf n finals rows) y two
+  pub valid : Valid (made_of n finals rows)
+  pub two_starts : 2 ≤ n
+  pub first_good : Good n x
+  pub second_good : Good n y
+  pub first_speaks : Speaks (made_of n finals rows) x one
+  pub second_speaks : Speaks (made_of n finals rows) y two
 
 abbrev pub Spoken : List ℕ → List ℕ → List ℕ → Answer → Type 0
 Spoken one two rows (Done n finals x y) = Patterned one two rows n finals x y

@@ -16,7 +16,7 @@ use Rattle.expressions.specs.Grammar.Leaf.{letter, unit, void}
 use Rattle.expressions.specs.Grammar.Mark.{many, some, maybe}
 use Rattle.expressions.specs.Grammar.Level.{alternation, sequence, factor}
 use Rattle.expressions.specs.Grammar.Token.{leaf, mark, bar, open', close'}
-use Rattle.expressions.specs.Texts.{Item, itemAt, pastAt, Passes, runLength}
+use Rattle.expressions.specs.Texts.{Item, item_at, past_at, Passes, run_length}
 use Rattle.expressions.specs.Texts.Item.{token, bad}
 use Rattle.expressions.specs.Scan.{scan, Faults}
 use Rattle.expressions.specs.Scan.Phase.{going}
@@ -61,16 +61,16 @@ decode c =
     (cond (eqb c 36) (token (mark maybe))
     (cond (eqb c 37) (token bar) (cond (eqb c 38) (token open') (cond (eqb c 39) (token close') bad))))))))
 
-abbrev pub beginsWith : ℕ → Bool
-beginsWith c = ltb c 34 || eqb c 38
+abbrev pub begins_with : ℕ → Bool
+begins_with c = ltb c 34 || eqb c 38
 
 pub record Looks (text : List ℕ) (code place past : ℕ) : Type 0 where
   pub known : code ≤ 41
   pub inside : place ≤ length text
   pub end : code ≡ 40 → place ≡ length text
   pub stands : (code ≡ 40 → ⊥) → place < length text
-  pub item : (code ≡ 40 → ⊥) → itemAt text place ≡ decode code
-  pub beyond : (code ≡ 40 → ⊥) → past ≡ pastAt text place
+  pub item : (code ≡ 40 → ⊥) → item_at text place ≡ decode code
+  pub beyond : (code ≡ 40 → ⊥) → past ≡ past_at text place
 
 pub record Peeked (text : List ℕ) (at : ℕ) (k : Look) : Type 0 where
   pub gaps : Passes text at [] k.place
@@ -82,12 +82,12 @@ pub record Skipped (text : List ℕ) (at r : ℕ) : Type 0 where
   pub stops : r < length text → get_or text r 0 ≡ 32 → ⊥
 
 pub record RunEnd (text : List ℕ) (at r : ℕ) : Type 0 where
-  pub is : r ≡ at + runLength (drop at text)
+  pub is : r ≡ at + run_length (drop at text)
   pub inside : r ≤ length text
 
 pub record Coded (i : Item) (c : ℕ) : Type 0 where
   pub known : c ≤ 41
-  pub not-end : c ≡ 40 → ⊥
+  pub not_end : c ≡ 40 → ⊥
   pub item : i ≡ decode c
 
 -- ---- a part of the text that was read, from one place to another, at a depth, from state u on
@@ -100,17 +100,17 @@ pub record Core (l : Level) (text : List ℕ) (at d u : ℕ) (fs fs' ns ns' : Li
   pub scans : (n : Bool) → scan tokens (going n d u) ≡ going false d used
   pub room : used ≤ 64
   pub states : used ≡ u + size tree
-  pub null-is : null ≡ nullable tree
-  pub first-is : firsts ≡ first tree u
-  pub last-is : lasts ≡ last tree u
-  pub follow-is : (s : ℕ) → s < 64 → get_or fs' s 0 ≡ bit_or (get_or fs s 0) (follow tree u s)
-  pub named-is : (a : ℕ) → a < 32 → get_or ns' a 0 ≡ bit_or (get_or ns a 0) (named tree u a)
+  pub null_is : null ≡ nullable tree
+  pub first_is : firsts ≡ first tree u
+  pub last_is : lasts ≡ last tree u
+  pub follow_is : (s : ℕ) → s < 64 → get_or fs' s 0 ≡ bit_or (get_or fs s 0) (follow tree u s)
+  pub named_is : (a : ℕ) → a < 32 → get_or ns' a 0 ≡ bit_or (get_or ns a 0) (named tree u a)
 
 -- what does not stand after it
 abbrev pub Ends : Level → ℕ → Type 0
 Ends factor c = (c < 34) ⊎ (36 < c)
-Ends sequence c = 36 < c × (beginsWith c ≡ false)
-Ends alternation c = 37 < c × (beginsWith c ≡ false)
+Ends sequence c = 36 < c × (begins_with c ≡ false)
+Ends alternation c = 37 < c × (begins_with c ≡ false)
 
 pub record Made (l : Level) (text : List ℕ) (at d u : ℕ) (fs fs' ns ns' : List ℕ) (x : Piece) : Type 0 where
   pub core : Core l text at d u fs fs' ns ns' x.null x.first x.last x.used x.place
@@ -147,7 +147,7 @@ pub record Asks (text : List ℕ) (at used depth : ℕ) (fs ns : List ℕ) : Typ
 pub record FactorAsks (text : List ℕ) (code place past used depth : ℕ) (fs ns : List ℕ) : Type 0 where
   pub asks : Asks text place used depth fs ns
   pub looks : Looks text code place past
-  pub begins : beginsWith code ≡ true
+  pub begins : begins_with code ≡ true
 
 -- a factor may come where one must and where one may; the others are read where a factor must come
 abbrev pub Missed : Level → List ℕ → ℕ → ℕ → ℕ → ℕ → ℕ → Type 0

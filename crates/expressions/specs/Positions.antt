@@ -6,8 +6,8 @@
 --                      the positions that a sequence can begin with, and end with
 --   follow e p s       the positions that can come right after position s
 --   named e p a        the positions that carry the letter a
---   rowOf e b s a      the row of state s by letter a, where state b is the start and position s is state s, from b + 1 on
---   finalsOf e b       the final states: the last positions, and the start where the empty sequence is taken
+--   row_of e b s a     the row of state s by letter a, where state b is the start and position s is state s, from b + 1 on
+--   finals_of e b      the final states: the last positions, and the start where the empty sequence is taken
 --   second e, states e f
 --                      the start of a second expression, and the states of two
 --   Together e f rows finals
@@ -95,16 +95,16 @@ named (opt e) p a = named e p a
 
 -- The automaton: state b is the start, and position s is state s, from b + 1 on.
 -- what comes right after state s: after the start, the first positions
-unfoldable pub nextOf : Expr → ℕ → ℕ → ℕ
-nextOf e b s = bit_or (linked (2 ^ b) s (first e (suc b))) (follow e (suc b) s)
+unfoldable pub next_of : Expr → ℕ → ℕ → ℕ
+next_of e b s = bit_or (linked (2 ^ b) s (first e (suc b))) (follow e (suc b) s)
 
 -- the row of state s by letter a
-unfoldable pub rowOf : Expr → ℕ → ℕ → ℕ → ℕ
-rowOf e b s a = bit_and (nextOf e b s) (named e (suc b) a)
+unfoldable pub row_of : Expr → ℕ → ℕ → ℕ → ℕ
+row_of e b s a = bit_and (next_of e b s) (named e (suc b) a)
 
 -- the final states: the last positions, and the start where the empty sequence is taken
-unfoldable pub finalsOf : Expr → ℕ → ℕ
-finalsOf e b = bit_or (last e (suc b)) (when (nullable e) (2 ^ b))
+unfoldable pub finals_of : Expr → ℕ → ℕ
+finals_of e b = bit_or (last e (suc b)) (when (nullable e) (2 ^ b))
 
 -- the second start: the first has its names before it
 abbrev pub second : Expr → ℕ
@@ -116,5 +116,5 @@ states e f = second e + suc (size f)
 
 -- the rows and the finals of two expressions put together, 32 rows to a state
 pub record Together (e f : Expr) (rows : List ℕ) (finals : ℕ) : Type 0 where
-  pub row : (s a : ℕ) → s < states e f → a < 32 → get_or rows (s * 32 + a) 0 ≡ bit_or (rowOf e 0 s a) (rowOf f (second e) s a)
-  pub final : finals ≡ bit_or (finalsOf e 0) (finalsOf f (second e))
+  pub row : (s a : ℕ) → s < states e f → a < 32 → get_or rows (s * 32 + a) 0 ≡ bit_or (row_of e 0 s a) (row_of f (second e) s a)
+  pub final : finals ≡ bit_or (finals_of e 0) (finals_of f (second e))

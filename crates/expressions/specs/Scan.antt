@@ -1,5 +1,5 @@
 -- One pass over the names and signs of a text that finds its first fault. Private functions alone cite this file: no promise to a host rests on it.
--- What the pass finds is what `FirstFault` says (`first-fault`).
+-- What the pass finds is what `FirstFault` says (`first_fault`).
 --   Phase         a factor must come next or not, at a depth, with so many states taken; or the pass has halted
 --   scan ts p     the phase after the names and signs ts
 --   Here          the fault at a place that the pass has come to
@@ -8,7 +8,7 @@ use Rattle.std.specs.Prelude.{◌≡◌, ◌⊎◌, Bool, true, false, cond, Lis
 use Rattle.expressions.specs.Grammar.{Mark, Token}
 use Rattle.expressions.specs.Grammar.Leaf.{letter, unit, void}
 use Rattle.expressions.specs.Grammar.Token.{leaf, mark, bar, open', close'}
-use Rattle.expressions.specs.Texts.{itemAt, Passes}
+use Rattle.expressions.specs.Texts.{item_at, Passes}
 use Rattle.expressions.specs.Texts.Item.{token, bad}
 
 pub data Phase : Type 0 where
@@ -39,18 +39,18 @@ scan (t ∷ ts) p = scan ts (turn t p)
 
 -- a token that the grammar does not have there
 pub data Stops : Token → Bool → ℕ → Type 0 where
-  noMark : {m : Mark} {d : ℕ} → Stops (mark m) true d
-  noBar : {d : ℕ} → Stops bar true d
-  noClose : {d : ℕ} → Stops close' true d
-  noneOpen : Stops close' false 0
+  no_mark : {m : Mark} {d : ℕ} → Stops (mark m) true d
+  no_bar : {d : ℕ} → Stops bar true d
+  no_close : {d : ℕ} → Stops close' true d
+  none_open : Stops close' false 0
 
 -- the fault at a place that the pass has come to
 pub data Here (text : List ℕ) (q : ℕ) (n : Bool) (d u : ℕ) : ℕ → Type 0 where
-  badHere : q < length text → itemAt text q ≡ bad → Here text q n d u 30
-  endHere : q ≡ length text → (n ≡ true) ⊎ (0 < d) → Here text q n d u 30
-  stopHere : {t : Token} → q < length text → itemAt text q ≡ token t → Stops t n d → Here text q n d u 30
-  manyHere : {a : ℕ} → q < length text → itemAt text q ≡ token (leaf (letter a)) → 64 ≤ u → Here text q n d u 31
-  deepHere : q < length text → itemAt text q ≡ token open' → 32 ≤ d → Here text q n d u 32
+  bad_here : q < length text → item_at text q ≡ bad → Here text q n d u 30
+  end_here : q ≡ length text → (n ≡ true) ⊎ (0 < d) → Here text q n d u 30
+  stop_here : {t : Token} → q < length text → item_at text q ≡ token t → Stops t n d → Here text q n d u 30
+  many_here : {a : ℕ} → q < length text → item_at text q ≡ token (leaf (letter a)) → 64 ≤ u → Here text q n d u 31
+  deep_here : q < length text → item_at text q ≡ token open' → 32 ≤ d → Here text q n d u 32
 
 -- from a place the pass comes to another
 pub record Comes (text : List ℕ) (at : ℕ) (n : Bool) (d u to : ℕ) (n' : Bool) (d' u' : ℕ) (ts : List Token) : Type 0 where

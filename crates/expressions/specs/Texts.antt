@@ -1,14 +1,14 @@
 -- A text as bytes: its names and signs with their places, which text is right, and what is wrong with one that is refused (the scope, §14).
 --   Item                 what stands at a place: a space, a name or sign, or neither
---   itemAt text at       what stands there; pastAt text at: the place after it
+--   item_at text at      what stands there; past_at text at: the place after it
 --   Passes text at ts to from one place to another the text has the names and signs ts
 --   Means text e         the text is right, and e is its expression
 --   Wrong text taken number place
 --                        a fault of the text by number and place, where so many states are taken before its first name
---   FirstOf, FirstFault  the first of such faults, by place and then by number; there is only one (`one-first`)
+--   FirstOf, FirstFault  the first of such faults, by place and then by number; there is only one (`one_first`)
 use Rattle.std.specs.Prelude.{◌≡◌, ◌⊎◌, Bool, cond, ◌&&◌, ◌||◌, List, [], ◌∷◌, ◌++◌, ℕ, zero, suc, ◌+◌, ◌≤◌, ◌<◌, length, take, drop, eqb, leb, bytes_eq}
 use Rattle.text.specs.Text.{word}
-use Rattle.events.specs.Events.{eventName}
+use Rattle.events.specs.Events.{event_name}
 use Rattle.expressions.specs.Expressions.{Expr}
 use Rattle.expressions.specs.Grammar.{Token, Right, Viable}
 use Rattle.expressions.specs.Grammar.Leaf.{letter, unit, void}
@@ -18,13 +18,13 @@ use Rattle.expressions.specs.Grammar.Token.{leaf, mark, bar, open', close'}
 -- ---- names and signs
 
 -- a capital or a digit
-abbrev pub inName : ℕ → Bool
-inName b = (leb 48 b && leb b 57) || (leb 65 b && leb b 90)
+abbrev pub in_name : ℕ → Bool
+in_name b = (leb 48 b && leb b 57) || (leb 65 b && leb b 90)
 
 -- the longest run of capitals and digits that the bytes begin with, as a count
-unfoldable pub runLength : List ℕ → ℕ
-runLength [] = 0
-runLength (b ∷ bs) = cond (inName b) (suc (runLength bs)) 0
+unfoldable pub run_length : List ℕ → ℕ
+run_length [] = 0
+run_length (b ∷ bs) = cond (in_name b) (suc (run_length bs)) 0
 
 -- what stands at a place: a space, a name or sign, or neither
 pub data Item : Type 0 where
@@ -33,16 +33,16 @@ pub data Item : Type 0 where
   bad : Item
 
 -- the letter whose name the run is, among so many letters from a on
-unfoldable pub lookUp : List ℕ → ℕ → ℕ → Item
-lookUp run zero a = bad
-lookUp run (suc n) a = cond (bytes_eq run (eventName a)) (token (leaf (letter a))) (lookUp run n (suc a))
+unfoldable pub look_up : List ℕ → ℕ → ℕ → Item
+look_up run zero a = bad
+look_up run (suc n) a = cond (bytes_eq run (event_name a)) (token (leaf (letter a))) (look_up run n (suc a))
 
 -- 1 and 0 only as whole runs
-unfoldable pub nameItem : List ℕ → Item
-nameItem run = cond (bytes_eq run (word "1")) (token (leaf unit)) (cond (bytes_eq run (word "0")) (token (leaf void)) (lookUp run 32 0))
+unfoldable pub name_item : List ℕ → Item
+name_item run = cond (bytes_eq run (word "1")) (token (leaf unit)) (cond (bytes_eq run (word "0")) (token (leaf void)) (look_up run 32 0))
 
-unfoldable pub signItem : ℕ → Item
-signItem b =
+unfoldable pub sign_item : ℕ → Item
+sign_item b =
     cond (eqb b 32) gap
     (cond (eqb b 124) (token bar)
     (cond (eqb b 42) (token (mark many))
@@ -50,25 +50,25 @@ signItem b =
     (cond (eqb b 63) (token (mark maybe)) (cond (eqb b 40) (token open') (cond (eqb b 41) (token close') bad))))))
 
 -- what the bytes begin with, and how many of them that takes
-unfoldable pub itemOf : List ℕ → Item
-itemOf [] = bad
-itemOf (b ∷ bs) = cond (inName b) (nameItem (take (runLength (b ∷ bs)) (b ∷ bs))) (signItem b)
+unfoldable pub item_of : List ℕ → Item
+item_of [] = bad
+item_of (b ∷ bs) = cond (in_name b) (name_item (take (run_length (b ∷ bs)) (b ∷ bs))) (sign_item b)
 
-unfoldable pub sizeOf : List ℕ → ℕ
-sizeOf [] = 1
-sizeOf (b ∷ bs) = cond (inName b) (runLength (b ∷ bs)) 1
+unfoldable pub size_of : List ℕ → ℕ
+size_of [] = 1
+size_of (b ∷ bs) = cond (in_name b) (run_length (b ∷ bs)) 1
 
-unfoldable pub itemAt : List ℕ → ℕ → Item
-itemAt text at = itemOf (drop at text)
+unfoldable pub item_at : List ℕ → ℕ → Item
+item_at text at = item_of (drop at text)
 
-unfoldable pub pastAt : List ℕ → ℕ → ℕ
-pastAt text at = at + sizeOf (drop at text)
+unfoldable pub past_at : List ℕ → ℕ → ℕ
+past_at text at = at + size_of (drop at text)
 
 -- from one place to another the text has these names and signs
 pub data Passes (text : List ℕ) : ℕ → List Token → ℕ → Type 0 where
   here : {at : ℕ} → Passes text at [] at
-  space : {at to : ℕ} {ts : List Token} → at < length text → itemAt text at ≡ gap → Passes text (pastAt text at) ts to → Passes text at ts to
-  item : {at to : ℕ} {t : Token} {ts : List Token} → at < length text → itemAt text at ≡ token t → Passes text (pastAt text at) ts to
+  space : {at to : ℕ} {ts : List Token} → at < length text → item_at text at ≡ gap → Passes text (past_at text at) ts to → Passes text at ts to
+  item : {at to : ℕ} {t : Token} {ts : List Token} → at < length text → item_at text at ≡ token t → Passes text (past_at text at) ts to
       → Passes text at (t ∷ ts) to
 
 -- the text is right, and this is its expression
@@ -109,17 +109,17 @@ shuts (close' ∷ ts) = suc (shuts ts)
 -- a fault of the text by number and place, where so many states are taken before its first name
 pub data Wrong (text : List ℕ) (taken : ℕ) : ℕ → ℕ → Type 0 where
   -- 30: no right text has this name or sign there
-  misplaced : {ts : List Token} {t : Token} {q : ℕ} → Passes text 0 ts q → q < length text → itemAt text q ≡ token t → (Viable (ts ++ (t ∷ [])) → ⊥)
+  misplaced : {ts : List Token} {t : Token} {q : ℕ} → Passes text 0 ts q → q < length text → item_at text q ≡ token t → (Viable (ts ++ (t ∷ [])) → ⊥)
       → Wrong text taken 30 q
   -- 30: no right text has this byte or this name anywhere
-  unknown : {ts : List Token} {q : ℕ} → Passes text 0 ts q → q < length text → itemAt text q ≡ bad → Wrong text taken 30 q
+  unknown : {ts : List Token} {q : ℕ} → Passes text 0 ts q → q < length text → item_at text q ≡ bad → Wrong text taken 30 q
   -- 30: the text ends too soon
   unfinished : {ts : List Token} → Passes text 0 ts (length text) → ((e : Expr) → Right ts e → ⊥) → Wrong text taken 30 (length text)
   -- 31: an event name, and no state is left
-  tooMany : {ts : List Token} {a q : ℕ} → Passes text 0 ts q → q < length text → itemAt text q ≡ token (leaf (letter a)) → 64 ≤ taken + events ts
+  too_many : {ts : List Token} {a q : ℕ} → Passes text 0 ts q → q < length text → item_at text q ≡ token (leaf (letter a)) → 64 ≤ taken + events ts
       → Wrong text taken 31 q
   -- 32: a parenthesis opens, and 32 are open
-  tooDeep : {ts : List Token} {q : ℕ} → Passes text 0 ts q → q < length text → itemAt text q ≡ token open' → 32 + shuts ts ≤ opens ts
+  too_deep : {ts : List Token} {q : ℕ} → Passes text 0 ts q → q < length text → item_at text q ≡ token open' → 32 + shuts ts ≤ opens ts
       → Wrong text taken 32 q
 
 -- the first of such faults, by place and then by number

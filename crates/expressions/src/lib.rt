@@ -2,14 +2,14 @@
 #![tactic(auto)]
 
 ghost use Rattle.std.specs.Prelude.{◌≡◌, ◌&&◌, ◌||◌, ◌<◌, ◌≤◌, ◌+◌, ◌*◌, length, bytes_eq};
-ghost use Rattle.events.specs.Events.{eventName};
+ghost use Rattle.events.specs.Events.{event_name};
 ghost use Rattle.expressions.specs.Grammar.Level.{alternation, sequence, factor};
 ghost use Rattle.expressions.specs.Positions.{when};
-ghost use Rattle.expressions.specs.Texts.{inName, signItem, nameItem, lookUp};
-ghost use Rattle.expressions.specs.Pieces.{Linked, Chained, Parted, Peeked, Skipped, RunEnd, Coded, Marked, IsMark, Looped, Nulled, Asks, FactorAsks, Told, beginsWith};
+ghost use Rattle.expressions.specs.Texts.{in_name, sign_item, name_item, look_up};
+ghost use Rattle.expressions.specs.Pieces.{Linked, Chained, Parted, Peeked, Skipped, RunEnd, Coded, Marked, IsMark, Looped, Nulled, Asks, FactorAsks, Told, begins_with};
 ghost use Rattle.expressions.specs.Answers.{Expressed};
 ghost use Rattle.expressions.specs.Languages.{Answered};
-ghost use Rattle.expressions.specs.Both.{Blank, Judged, Crowded, finalsFrom, FillAsks, Filled};
+ghost use Rattle.expressions.specs.Both.{Blank, Judged, Crowded, finals_from, FillAsks, Filled};
 
 use events::put_name;
 
@@ -99,14 +99,14 @@ fn parted(x: Piece, y: Piece) -> Piece
 
 // Whether a factor begins so: with a name or an open parenthesis.
 fn begins(code: usize) -> bool
-    ensures { result ≡ beginsWith code }
+    ensures { result ≡ begins_with code }
 {
     code < 34 || code == 38
 }
 
 // Whether a byte is a capital or a digit.
 fn in_name(b: u8) -> bool
-    ensures { result ≡ inName b }
+    ensures { result ≡ in_name b }
 {
     matches!(b, b'0'..=b'9' | b'A'..=b'Z')
 }
@@ -136,10 +136,10 @@ fn run_end(text: &[u8], at: usize) -> usize
 }
 
 // A sign, or neither name nor sign.
-#[tactic(auto, unfolding(crate::specs::Texts::signItem, crate::specs::Pieces::decode))]
+#[tactic(auto, unfolding(crate::specs::Texts::sign_item, crate::specs::Pieces::decode))]
 fn sign_code(b: u8) -> usize
     requires { b ≡ 32 → ⊥ }
-    ensures { Coded (signItem b) result }
+    ensures { Coded (sign_item b) result }
 {
     match b {
         b'*' => 34,
@@ -155,7 +155,7 @@ fn sign_code(b: u8) -> usize
 // Whether the run is the name of a letter.
 fn name_is(run: &[u8], letter: usize) -> bool
     requires { letter < 32 }
-    ensures { result ≡ bytes_eq run.now (eventName letter) }
+    ensures { result ≡ bytes_eq run.now (event_name letter) }
 {
     let mut name: [u8; 9] = [0; 9];
     let n = put_name(&mut name, 0, letter as u8);
@@ -164,7 +164,7 @@ fn name_is(run: &[u8], letter: usize) -> bool
 
 // The letter of an event name, or neither name nor sign.
 fn find(run: &[u8]) -> usize
-    ensures { Coded (lookUp run.now 32 0) result }
+    ensures { Coded (look_up run.now 32 0) result }
 {
     for letter in 0..32 {
         if name_is(run, letter) {
@@ -176,7 +176,7 @@ fn find(run: &[u8]) -> usize
 
 // A name: an event's, `1` or `0`; or neither name nor sign.
 fn name_code(run: &[u8]) -> usize
-    ensures { Coded (nameItem run.now) result }
+    ensures { Coded (name_item run.now) result }
 {
     if run == b"1".as_slice() {
         return 32;
@@ -418,7 +418,7 @@ fn crowded(second: Part) -> Answer
 
 // The final states of both.
 fn finals(x: Piece, y: Piece, start: u64) -> u64
-    ensures { result ≡ finalsFrom x y start }
+    ensures { result ≡ finals_from x y start }
 {
     let a = kept(x.null, 1);
     let b = kept(y.null, start);

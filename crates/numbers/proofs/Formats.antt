@@ -13,9 +13,9 @@ use Rattle.verdict.specs.declared.Verdict.{Verdict}
 use Rattle.verdict.specs.declared.Verdict.TheVariants.{Fine, Against}
 use Rattle.numbers.specs.declared.Number.{Number}
 use Rattle.numbers.specs.declared.Number.TheVariants.{Value, Fault}
-use Rattle.numbers.specs.Numbers.{encode, numberAt, AreBytes}
-use Rattle.numbers.specs.Format.{Format, ended, item, gate, Reading, got, refused, ruled, heldTo, orRefused, unlessRefused, before, reading, noTail, fileReading, encodeAll, Fits}
-use Rattle.numbers.proofs.RoundTrip.{Found, read-after-write, write-after-read, fault-value}
+use Rattle.numbers.specs.Numbers.{encode, number_at, AreBytes}
+use Rattle.numbers.specs.Format.{Format, ended, item, gate, Reading, got, refused, ruled, held_to, or_refused, unless_refused, before, reading, no_tail, file_reading, encode_all, Fits}
+use Rattle.numbers.proofs.RoundTrip.{Found, read_after_write, write_after_read, fault_value}
 
 -- ---- a number held to a test
 
@@ -24,12 +24,12 @@ pub record Held (test : ℕ → Verdict) (at : ℕ) (n : Number) (v next : ℕ) 
   pub form : n ≡ Value v next
   pub range : test v ≡ Fine
 
-pub held : (test : ℕ → Verdict) (at : ℕ) (n : Number) {v next : ℕ} → heldTo test at n ≡ Value v next → Held test at n v next
-held test at (Fault w p) h = absurd (fault-value h)
+pub held : (test : ℕ → Verdict) (at : ℕ) (n : Number) {v next : ℕ} → held_to test at n ≡ Value v next → Held test at n v next
+held test at (Fault w p) h = absurd (fault_value h)
 held test at (Value x to) {v} {next} h = go (test x) refl h
   where
     go : (u : Verdict) → test x ≡ u → ruled u at x to ≡ Value v next → Held test at (Value x to) v next
-    go (Against w) e h = absurd (fault-value h)
+    go (Against w) e h = absurd (fault_value h)
     go Fine e h = let y : v ≡ x = cc in record { form = h; range = ap test y ∙ e }
 
 -- ---- reading what was written
@@ -37,105 +37,105 @@ held test at (Value x to) {v} {next} h = go (test x) refl h
 pub behind : (s : List ℕ) (at : ℕ) (a t : List ℕ) → drop at s ≡ a ++ t → drop (at + length a) s ≡ t
 behind s at a t e = sym (drop-drop (length a) at s) ∙ ap (drop (length a)) e ∙ drop-append_seam a t
 
-pub reading-after-write : (f : Format) (vs s : List ℕ) (at : ℕ) (t : List ℕ) → drop at s ≡ encodeAll vs ++ t → Fits f vs → reading f s at ≡ got vs (at + length (encodeAll vs))
-unfolding Fits encodeAll reading
-reading-after-write ended [] s at t e h = ap (got []) (omega arith)
-reading-after-write ended (v ∷ vs) s at t e h = elim h [ ]
-reading-after-write (item test rest) [] s at t e h = elim h [ ]
-reading-after-write (item test rest) (v ∷ vs) s at t e h =
-    let d : drop at s ≡ encode v ++ (encodeAll vs ++ t) = e ∙ append_assoc (encode v) (encodeAll vs) t in
-    let n : at + length (encode v) + length (encodeAll vs) ≡ at + length (encode v ++ encodeAll vs) = omega (arith, length-append (encode v) (encodeAll vs)) in
-    simp (read-after-write s at v (encodeAll vs ++ t) h.0 d, h.1)
-    (ap (before v) (reading-after-write (rest v) vs s (at + length (encode v)) t (behind s at (encode v) (encodeAll vs ++ t) d) h.2)
+pub reading_after_write : (f : Format) (vs s : List ℕ) (at : ℕ) (t : List ℕ) → drop at s ≡ encode_all vs ++ t → Fits f vs → reading f s at ≡ got vs (at + length (encode_all vs))
+unfolding Fits encode_all reading
+reading_after_write ended [] s at t e h = ap (got []) (omega arith)
+reading_after_write ended (v ∷ vs) s at t e h = elim h [ ]
+reading_after_write (item test rest) [] s at t e h = elim h [ ]
+reading_after_write (item test rest) (v ∷ vs) s at t e h =
+    let d : drop at s ≡ encode v ++ (encode_all vs ++ t) = e ∙ append_assoc (encode v) (encode_all vs) t in
+    let n : at + length (encode v) + length (encode_all vs) ≡ at + length (encode v ++ encode_all vs) = omega (arith, length-append (encode v) (encode_all vs)) in
+    simp (read_after_write s at v (encode_all vs ++ t) h.0 d, h.1)
+    (ap (before v) (reading_after_write (rest v) vs s (at + length (encode v)) t (behind s at (encode v) (encode_all vs ++ t) d) h.2)
     ∙ ap (got (v ∷ vs)) n)
-reading-after-write (gate verdict rest) vs s at t e h = rw h.0 (reading-after-write rest vs s at t e h.1)
+reading_after_write (gate verdict rest) vs s at t e h = rw h.0 (reading_after_write rest vs s at t e h.1)
 
 -- ---- what was read is what was written
 
 pub record ReadAs (f : Format) (vs s : List ℕ) (at next : ℕ) : Type 0 where
   pub fits : Fits f vs
-  pub bytes : drop at s ≡ encodeAll vs ++ drop next s
-  pub after : next ≡ at + length (encodeAll vs)
+  pub bytes : drop at s ≡ encode_all vs ++ drop next s
+  pub after : next ≡ at + length (encode_all vs)
 
-pub refused-got : {w p : ℕ} {vs : List ℕ} {n : ℕ} → refused w p ≡ got vs n → ⊥
-refused-got h = let z : ◌≡◌ {A = ℕ} 0 1 = cc in omega arith
+pub refused_got : {w p : ℕ} {vs : List ℕ} {n : ℕ} → refused w p ≡ got vs n → ⊥
+refused_got h = let z : ◌≡◌ {A = ℕ} 0 1 = cc in omega arith
 
-read-ended : (s : List ℕ) (at : ℕ) (us : List ℕ) (end : ℕ) → got [] at ≡ got us end → ReadAs ended us s at end
-unfolding Fits encodeAll
-read-ended s at us end h =
+read_ended : (s : List ℕ) (at : ℕ) (us : List ℕ) (end : ℕ) → got [] at ≡ got us end → ReadAs ended us s at end
+unfolding Fits encode_all
+read_ended s at us end h =
     let x : us ≡ [] = cc in
     let y : end ≡ at = cc in
     rw (x, y) (record { fits = tt; bytes = refl; after = omega arith })
 
 joined : (test : ℕ → Verdict) (rest : ℕ → Format) (s : List ℕ) (at v next : ℕ) (vs : List ℕ) (to : ℕ) → Found s at v next → test v ≡ Fine → ReadAs (rest v) vs s next to
     → ReadAs (item test rest) (v ∷ vs) s at to
-unfolding Fits encodeAll
+unfolding Fits encode_all
 joined test rest s at v next vs to f g r =
     record {
       fits = (f.small, g, r.fits);
-      bytes = f.bytes ∙ ap (λ (l : List ℕ). encode v ++ l) r.bytes ∙ sym (append_assoc (encode v) (encodeAll vs) (drop to s));
-      after = omega (arith, f.after, r.after, length-append (encode v) (encodeAll vs));
+      bytes = f.bytes ∙ ap (λ (l : List ℕ). encode v ++ l) r.bytes ∙ sym (append_assoc (encode v) (encode_all vs) (drop to s));
+      after = omega (arith, f.after, r.after, length-append (encode v) (encode_all vs));
     }
 
-read-item : (test : ℕ → Verdict) (rest : ℕ → Format) (s : List ℕ) (at : ℕ) (us : List ℕ) (end : ℕ) → AreBytes s
+read_item : (test : ℕ → Verdict) (rest : ℕ → Format) (s : List ℕ) (at : ℕ) (us : List ℕ) (end : ℕ) → AreBytes s
     → ((v : ℕ) (vs : List ℕ) (from to : ℕ) → reading (rest v) s from ≡ got vs to → ReadAs (rest v) vs s from to)
-    → (n : Number) → heldTo test at (numberAt s at) ≡ n → orRefused n (λ v next. before v (reading (rest v) s next)) ≡ got us end
+    → (n : Number) → held_to test at (number_at s at) ≡ n → or_refused n (λ v next. before v (reading (rest v) s next)) ≡ got us end
     → ReadAs (item test rest) us s at end
-read-item test rest s at us end a ih (Fault w p) e h = absurd (refused-got h)
-read-item test rest s at us end a ih (Value v next) e h = go (reading (rest v) s next) refl h
+read_item test rest s at us end a ih (Fault w p) e h = absurd (refused_got h)
+read_item test rest s at us end a ih (Value v next) e h = go (reading (rest v) s next) refl h
   where
     go : (r : Reading) → reading (rest v) s next ≡ r → before v r ≡ got us end → ReadAs (item test rest) us s at end
-    go (refused w p) q h = absurd (refused-got h)
+    go (refused w p) q h = absurd (refused_got h)
     go (got vs to) q h =
         let x : us ≡ v ∷ vs = cc in
         let y : end ≡ to = cc in
-        let k : Held test at (numberAt s at) v next = held test at (numberAt s at) e in
-        rw (x, y) (joined test rest s at v next vs to (write-after-read s at v next a k.form) k.range (ih v vs next to q))
+        let k : Held test at (number_at s at) v next = held test at (number_at s at) e in
+        rw (x, y) (joined test rest s at v next vs to (write_after_read s at v next a k.form) k.range (ih v vs next to q))
 
-read-gate : (verdict : Verdict) (rest : Format) (s : List ℕ) (at : ℕ) (us : List ℕ) (end : ℕ) → (reading rest s at ≡ got us end → ReadAs rest us s at end)
-    → unlessRefused verdict at (reading rest s at) ≡ got us end → ReadAs (gate verdict rest) us s at end
+read_gate : (verdict : Verdict) (rest : Format) (s : List ℕ) (at : ℕ) (us : List ℕ) (end : ℕ) → (reading rest s at ≡ got us end → ReadAs rest us s at end)
+    → unless_refused verdict at (reading rest s at) ≡ got us end → ReadAs (gate verdict rest) us s at end
 unfolding Fits
-read-gate (Against w) rest s at us end ih h = absurd (refused-got h)
-read-gate Fine rest s at us end ih h = let r : ReadAs rest us s at end = ih h in record { fits = (refl, r.fits); bytes = r.bytes; after = r.after }
+read_gate (Against w) rest s at us end ih h = absurd (refused_got h)
+read_gate Fine rest s at us end ih h = let r : ReadAs rest us s at end = ih h in record { fits = (refl, r.fits); bytes = r.bytes; after = r.after }
 
-pub write-after-reading : (f : Format) (s : List ℕ) (at : ℕ) (us : List ℕ) (end : ℕ) → AreBytes s → reading f s at ≡ got us end → ReadAs f us s at end
+pub write_after_reading : (f : Format) (s : List ℕ) (at : ℕ) (us : List ℕ) (end : ℕ) → AreBytes s → reading f s at ≡ got us end → ReadAs f us s at end
 unfolding reading
-write-after-reading ended s at us end a h = read-ended s at us end h
-write-after-reading (item test rest) s at us end a h =
-    read-item test rest s at us end a (λ v vs from to q. write-after-reading (rest v) s from vs to a q) (heldTo test at (numberAt s at)) refl h
-write-after-reading (gate verdict rest) s at us end a h = read-gate verdict rest s at us end (λ q. write-after-reading rest s at us end a q) h
+write_after_reading ended s at us end a h = read_ended s at us end h
+write_after_reading (item test rest) s at us end a h =
+    read_item test rest s at us end a (λ v vs from to q. write_after_reading (rest v) s from vs to a q) (held_to test at (number_at s at)) refl h
+write_after_reading (gate verdict rest) s at us end a h = read_gate verdict rest s at us end (λ q. write_after_reading rest s at us end a q) h
 
 -- ---- THE LAW OF FILES
 
 -- numbers that fit read back from their bytes, and all bytes are taken
-pub file-read-after-write : (f : Format) (vs : List ℕ) → Fits f vs → fileReading f (encodeAll vs) ≡ got vs (length (encodeAll vs))
-unfolding fileReading
-file-read-after-write f vs h =
-    let r : reading f (encodeAll vs) 0 ≡ got vs (0 + length (encodeAll vs)) = reading-after-write f vs (encodeAll vs) 0 [] (sym (append-nil (encodeAll vs))) h in
-    let n : 0 + length (encodeAll vs) ≡ length (encodeAll vs) = omega arith in
-    let k : ltb (length (encodeAll vs)) (length (encodeAll vs)) ≡ false = le-ltb (length (encodeAll vs)) (length (encodeAll vs)) (omega arith) in
+pub file_read_after_write : (f : Format) (vs : List ℕ) → Fits f vs → file_reading f (encode_all vs) ≡ got vs (length (encode_all vs))
+unfolding file_reading
+file_read_after_write f vs h =
+    let r : reading f (encode_all vs) 0 ≡ got vs (0 + length (encode_all vs)) = reading_after_write f vs (encode_all vs) 0 [] (sym (append-nil (encode_all vs))) h in
+    let n : 0 + length (encode_all vs) ≡ length (encode_all vs) = omega arith in
+    let k : ltb (length (encode_all vs)) (length (encode_all vs)) ≡ false = le-ltb (length (encode_all vs)) (length (encode_all vs)) (omega arith) in
     simp (r, n, k)
 
 pub record IsFile (f : Format) (vs s : List ℕ) (end : ℕ) : Type 0 where
   pub fits : Fits f vs
-  pub bytes : s ≡ encodeAll vs
-  pub takes-all : end ≡ length s
+  pub bytes : s ≡ encode_all vs
+  pub takes_all : end ≡ length s
 
-whole-file : (f : Format) (s us : List ℕ) (to : ℕ) → length s ≤ to → ReadAs f us s 0 to → IsFile f us s to
-whole-file f s us to l r =
-    let b : s ≡ encodeAll us = r.bytes ∙ ap (λ (t : List ℕ). encodeAll us ++ t) (drop_of_length-le s l) ∙ append-nil (encodeAll us) in
-    record { fits = r.fits; bytes = b; takes-all = omega (arith, r.after, ap length b) }
+whole_file : (f : Format) (s us : List ℕ) (to : ℕ) → length s ≤ to → ReadAs f us s 0 to → IsFile f us s to
+whole_file f s us to l r =
+    let b : s ≡ encode_all us = r.bytes ∙ ap (λ (t : List ℕ). encode_all us ++ t) (drop_of_length-le s l) ∙ append-nil (encode_all us) in
+    record { fits = r.fits; bytes = b; takes_all = omega (arith, r.after, ap length b) }
 
 -- an accepted file was read to its end
-pub file-got : (f : Format) (s vs : List ℕ) (end : ℕ) → fileReading f s ≡ got vs end → (reading f s 0 ≡ got vs end) × (length s ≤ end)
-unfolding fileReading
-file-got f s vs end h = go (reading f s 0) refl h
+pub file_got : (f : Format) (s vs : List ℕ) (end : ℕ) → file_reading f s ≡ got vs end → (reading f s 0 ≡ got vs end) × (length s ≤ end)
+unfolding file_reading
+file_got f s vs end h = go (reading f s 0) refl h
   where
-    go : (r : Reading) → reading f s 0 ≡ r → noTail s r ≡ got vs end → (reading f s 0 ≡ got vs end) × (length s ≤ end)
-    go (refused w p) e h = absurd (refused-got h)
+    go : (r : Reading) → reading f s 0 ≡ r → no_tail s r ≡ got vs end → (reading f s 0 ≡ got vs end) × (length s ≤ end)
+    go (refused w p) e h = absurd (refused_got h)
     go (got us to) e h =
         elim (dec_lt to (length s)) [
-          | yes l ↦ absurd (refused-got (simp (lt-ltb to (length s) l) at h))
+          | yes l ↦ absurd (refused_got (simp (lt-ltb to (length s) l) at h))
           | no l ↦
               let q : got us to ≡ got vs end = simp (le-ltb to (length s) (omega arith)) at h in
               let y : end ≡ to = cc in
@@ -143,7 +143,7 @@ file-got f s vs end h = go (reading f s 0) refl h
         ]
 
 -- it is the bytes of its numbers, which fit
-pub file-write-after-read : (f : Format) (s vs : List ℕ) (end : ℕ) → AreBytes s → fileReading f s ≡ got vs end → IsFile f vs s end
-file-write-after-read f s vs end a h =
-    let (e, l) = file-got f s vs end h in
-    whole-file f s vs end l (write-after-reading f s 0 vs end a e)
+pub file_write_after_read : (f : Format) (s vs : List ℕ) (end : ℕ) → AreBytes s → file_reading f s ≡ got vs end → IsFile f vs s end
+file_write_after_read f s vs end a h =
+    let (e, l) = file_got f s vs end h in
+    whole_file f s vs end l (write_after_reading f s 0 vs end a e)

@@ -1,26 +1,26 @@
 -- Where and why reading stops.
---   EndsEarly i bytes       the data ends before a number's last byte: 20 CUT (`cut-exactly`)
+--   EndsEarly i bytes       the data ends before a number's last byte: 20 CUT (`cut_exactly`)
 --   BadlyWritten Bad i bytes
 --                           one of a number's bytes is bad, and those before it say that another follows
---   Padded i bytes          the bad byte is a last group of 0 after at least one other: 21 PADDED (`padded-exactly`), which adds nothing
---                           (`padded-is-needless`)
---   TooBig i bytes          the bad byte is a tenth byte other than 00 or 01: 23 TOO-BIG (`too-big-exactly`), so that the value is
---                           2 ^ 64 or more (`too-big-is-big`)
+--   Padded i bytes          the bad byte is a last group of 0 after at least one other: 21 PADDED (`padded_exactly`), which adds nothing
+--                           (`padded_is_needless`)
+--   TooBig i bytes          the bad byte is a tenth byte other than 00 or 01: 23 TOO-BIG (`too_big_exactly`), so that the value is
+--                           2 ^ 64 or more (`too_big_is_big`), or has no end within ten bytes
 --   worth bytes             what their groups are worth, lowest first
 --   After f us g            what is left of a format behind some numbers that it takes
 --   StoppedBy s w place f   why reading a format stops at a place, with the refusal w
---   Stops f s at w place    reading from a place on stops there, and all numbers before it are right (`first-fault`)
+--   Stops f s at w place    reading from a place on stops there, and all numbers before it are right (`first_fault`)
 use Rattle.std.specs.Prelude.{ℕ, ◌+◌, ◌*◌, ◌%◌, ◌^◌, ◌<◌, ◌≤◌, List, [], ◌∷◌, ◌++◌, ◌≡◌, length, drop, get_or}
 use Rattle.verdict.specs.declared.Verdict.{Verdict}
 use Rattle.verdict.specs.declared.Verdict.TheVariants.{Fine, Against}
 use Rattle.numbers.specs.declared.Number.TheVariants.{Value, Fault}
-use Rattle.numbers.specs.Numbers.{numberAt}
-use Rattle.numbers.specs.Format.{Format, ended, item, gate, encodeAll}
+use Rattle.numbers.specs.Numbers.{number_at}
+use Rattle.numbers.specs.Format.{Format, ended, item, gate, encode_all}
 
 -- fewer than ten bytes are left, from byte number i on, and each says that another follows
 pub record EndsEarly (i : ℕ) (bs : List ℕ) : Type 0 where
   pub few : i + length bs < 10
-  pub go-on : (j : ℕ) → j < length bs → 128 ≤ get_or bs j 0
+  pub go_on : (j : ℕ) → j < length bs → 128 ≤ get_or bs j 0
 
 -- byte number i, from 0, is a last group of 0 after at least one other
 pub record Needless (i b : ℕ) : Type 0 where
@@ -37,7 +37,7 @@ pub record BadlyWritten (Bad : ℕ → ℕ → Type 0) (i : ℕ) (bs : List ℕ)
   pub j : ℕ
   pub there : j < length bs
   pub among : i + j < 10
-  pub go-on : (m : ℕ) → m < j → 128 ≤ get_or bs m 0
+  pub go_on : (m : ℕ) → m < j → 128 ≤ get_or bs m 0
   pub bad : Bad (i + j) (get_or bs j 0)
 
 abbrev pub Padded : ℕ → List ℕ → Type 0
@@ -59,16 +59,16 @@ pub data After : Format → List ℕ → Format → Type 0 where
 
 -- why reading stops at a place: a number badly formed, a number out of range, a verdict given there, or bytes after the last number
 pub data StoppedBy (s : List ℕ) (w place : ℕ) : Format → Type 0 where
-  by-form : {test : ℕ → Verdict} {rest : ℕ → Format} → numberAt s place ≡ Fault w place → StoppedBy s w place (item test rest)
-  by-range : {test : ℕ → Verdict} {rest : ℕ → Format} {v next : ℕ} → numberAt s place ≡ Value v next → test v ≡ Against w → StoppedBy s w place (item test rest)
-  by-gate : {verdict : Verdict} {rest : Format} → verdict ≡ Against w → StoppedBy s w place (gate verdict rest)
-  by-tail : w ≡ 22 → place < length s → StoppedBy s w place ended
+  by_form : {test : ℕ → Verdict} {rest : ℕ → Format} → number_at s place ≡ Fault w place → StoppedBy s w place (item test rest)
+  by_range : {test : ℕ → Verdict} {rest : ℕ → Format} {v next : ℕ} → number_at s place ≡ Value v next → test v ≡ Against w → StoppedBy s w place (item test rest)
+  by_gate : {verdict : Verdict} {rest : Format} → verdict ≡ Against w → StoppedBy s w place (gate verdict rest)
+  by_tail : w ≡ 22 → place < length s → StoppedBy s w place ended
 
 -- from place at on
 pub record Stops (f : Format) (s : List ℕ) (at w place : ℕ) : Type 0 where
   pub us : List ℕ
   pub left : Format
   pub follows : After f us left
-  pub bytes : drop at s ≡ encodeAll us ++ drop place s
-  pub placed : place ≡ at + length (encodeAll us)
+  pub bytes : drop at s ≡ encode_all us ++ drop place s
+  pub placed : place ≡ at + length (encode_all us)
   pub stopped : StoppedBy s w place left

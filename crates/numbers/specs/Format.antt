@@ -2,16 +2,16 @@
 --   Format              what a file is made of; what comes next may depend on the numbers read so far
 --   many m test rest    m numbers held to one test, and then the rest
 --   reading f s at      what reading a format from a place on gives: the numbers and the place after them, or a refusal and its place
---   fileReading f s     the same of a whole file: bytes after the last number are TAIL
---   encodeAll vs        the bytes of some numbers, one after the other
+--   file_reading f s    the same of a whole file: bytes after the last number are TAIL
+--   encode_all vs       the bytes of some numbers, one after the other
 --   Fits f vs           the numbers are what the format asks for
--- A file is accepted exactly where it is `encodeAll vs` of numbers that fit: `file-read-after-write`, `file-write-after-read`.
+-- A file is accepted exactly where it is `encode_all vs` of numbers that fit: `file_read_after_write`, `file_write_after_read`.
 use Rattle.std.specs.Prelude.{ℕ, zero, suc, ◌^◌, ◌<◌, cond, List, [], ◌∷◌, ◌++◌, ◌≡◌, ltb, length}
 use Rattle.verdict.specs.declared.Verdict.{Verdict}
 use Rattle.verdict.specs.declared.Verdict.TheVariants.{Fine, Against}
 use Rattle.numbers.specs.declared.Number.{Number}
 use Rattle.numbers.specs.declared.Number.TheVariants.{Value, Fault}
-use Rattle.numbers.specs.Numbers.{encode, numberAt}
+use Rattle.numbers.specs.Numbers.{encode, number_at}
 
 -- nothing more; a number held to a test, and what follows it; a verdict given here, before the next number is looked at
 pub data Format : Type 0 where
@@ -33,17 +33,17 @@ ruled Fine at v next = Value v next
 ruled (Against w) at v next = Fault w at
 
 -- form, then range: the place of either fault is the first byte of the number
-abbrev pub heldTo : (ℕ → Verdict) → ℕ → Number → Number
-heldTo test at (Value v next) = ruled (test v) at v next
-heldTo test at (Fault w place) = Fault w place
+abbrev pub held_to : (ℕ → Verdict) → ℕ → Number → Number
+held_to test at (Value v next) = ruled (test v) at v next
+held_to test at (Fault w place) = Fault w place
 
-abbrev pub orRefused : Number → (ℕ → ℕ → Reading) → Reading
-orRefused (Value v next) go-on = go-on v next
-orRefused (Fault w place) go-on = refused w place
+abbrev pub or_refused : Number → (ℕ → ℕ → Reading) → Reading
+or_refused (Value v next) go_on = go_on v next
+or_refused (Fault w place) go_on = refused w place
 
-abbrev pub unlessRefused : Verdict → ℕ → Reading → Reading
-unlessRefused Fine place r = r
-unlessRefused (Against w) place r = refused w place
+abbrev pub unless_refused : Verdict → ℕ → Reading → Reading
+unless_refused Fine place r = r
+unless_refused (Against w) place r = refused w place
 
 abbrev pub before : ℕ → Reading → Reading
 before v (got vs next) = got (v ∷ vs) next
@@ -51,20 +51,20 @@ before v (refused w place) = refused w place
 
 unfoldable pub reading : Format → List ℕ → ℕ → Reading
 reading ended s at = got [] at
-reading (item test rest) s at = orRefused (heldTo test at (numberAt s at)) (λ v next. before v (reading (rest v) s next))
-reading (gate verdict rest) s at = unlessRefused verdict at (reading rest s at)
+reading (item test rest) s at = or_refused (held_to test at (number_at s at)) (λ v next. before v (reading (rest v) s next))
+reading (gate verdict rest) s at = unless_refused verdict at (reading rest s at)
 
 -- TAIL, at the first extra byte
-abbrev pub noTail : List ℕ → Reading → Reading
-noTail s (got vs next) = cond (ltb next (length s)) (refused 22 next) (got vs next)
-noTail s (refused w place) = refused w place
+abbrev pub no_tail : List ℕ → Reading → Reading
+no_tail s (got vs next) = cond (ltb next (length s)) (refused 22 next) (got vs next)
+no_tail s (refused w place) = refused w place
 
-unfoldable pub fileReading : Format → List ℕ → Reading
-fileReading f s = noTail s (reading f s 0)
+unfoldable pub file_reading : Format → List ℕ → Reading
+file_reading f s = no_tail s (reading f s 0)
 
-unfoldable pub encodeAll : List ℕ → List ℕ
-encodeAll [] = []
-encodeAll (v ∷ vs) = encode v ++ encodeAll vs
+unfoldable pub encode_all : List ℕ → List ℕ
+encode_all [] = []
+encode_all (v ∷ vs) = encode v ++ encode_all vs
 
 unfoldable pub Fits : Format → List ℕ → Type 0
 Fits ended [] = Unit {0}

@@ -3,9 +3,9 @@
 
 ghost use Rattle.std.specs.Prelude.{◌≡◌, ◌+◌, ◌≤◌, ◌<◌, length};
 ghost use Rattle.lent.specs.Lent.{Put};
-ghost use Rattle.numbers.specs.Numbers.{readAt, byteTest, encode};
+ghost use Rattle.numbers.specs.Numbers.{read_at, byte_test, encode};
 ghost use Rattle.numbers.specs.Format as Format;
-ghost use Rattle.numbers.specs.Format.{encodeAll};
+ghost use Rattle.numbers.specs.Format.{encode_all};
 
 use verdict::{Verdict, need};
 
@@ -31,7 +31,7 @@ fn wide(x: u8) -> u64
 
 // Byte number i of a number, counted from 0.
 fn byte_test(i: usize, b: u64) -> Verdict
-    ensures { result ≡ byteTest i b }
+    ensures { result ≡ byte_test i b }
 {
     let shortest = need((i == 0) | (b != 0), 21);
     let Verdict::Fine = shortest else {
@@ -42,7 +42,7 @@ fn byte_test(i: usize, b: u64) -> Verdict
 
 // Who goes on behind the number adds how many bytes it took to its place.
 pub fn read(bytes: &[u8], at: usize) -> NumberRead
-    ensures { result ≡ readAt bytes.now at }
+    ensures { result ≡ read_at bytes.now at }
 {
     let mut value: u64 = 0;
     let mut weight: u64 = 1;
@@ -115,7 +115,7 @@ pub fn write(out: &mut [u8], at: usize, v: u64) -> usize
 
 // How many bytes a list of numbers takes.
 pub fn size_all(list: &[u64]) -> usize
-    ensures { result ≡ length (encodeAll list.now) }
+    ensures { result ≡ length (encode_all list.now) }
 {
     let mut total: usize = 0;
     let mut i: usize = 0;
@@ -128,8 +128,8 @@ pub fn size_all(list: &[u64]) -> usize
 
 // Puts the bytes of a list of numbers from a place on, and returns the place after them.
 pub fn write_all(out: &mut [u8], at: usize, list: &[u64]) -> usize
-    requires { at + length (encodeAll list.now) ≤ length out.old }
-    ensures { Put out.old at (encodeAll list.now) result out.new }
+    requires { at + length (encode_all list.now) ≤ length out.old }
+    ensures { Put out.old at (encode_all list.now) result out.new }
 {
     let mut place = at;
     let mut i: usize = 0;

@@ -6,23 +6,23 @@ use native.Mathlib.Numerals.{add-one}
 use native.Mathlib.Omega.{arith}
 use lib.ListN.{length, get_or, drop}
 use lib.Seq.{drop-cons, drop-length}
-use Rattle.pattern.specs.Pattern.{patternOf}
+use Rattle.pattern.specs.Pattern.{pattern_of}
 use Rattle.pattern.specs.Language.{next, reach}
 
 -- from the set by the whole word is from here by the rest of it
 pub record Following (n k : ℕ) (rows : List ℕ) (set : ℕ) (word : List ℕ) (at i : ℕ) : Type 0 where
   pub bound : i ≤ length word
-  pub rest : (finals : ℕ) → reach (patternOf n k finals rows) set word ≡ reach (patternOf n k finals rows) at (drop i word)
+  pub rest : (finals : ℕ) → reach (pattern_of n k finals rows) set word ≡ reach (pattern_of n k finals rows) at (drop i word)
 
 module _ {n k : ℕ} {rows : List ℕ} {set : ℕ} {word : List ℕ} where
-  pub following-more : {at at' i : ℕ} → i < length word → Following n k rows set word at i
-      → ((finals : ℕ) → at' ≡ next (patternOf n k finals rows) at (get_or word i 0)) → Following n k rows set word at' (i + 1)
+  pub following_more : {at at' i : ℕ} → i < length word → Following n k rows set word at i
+      → ((finals : ℕ) → at' ≡ next (pattern_of n k finals rows) at (get_or word i 0)) → Following n k rows set word at' (i + 1)
   unfolding reach
-  following-more {at} {at'} {i} l f e = record { bound = omega arith; rest = λ finals. f.rest finals ∙ rw (drop-cons word i 0 l, add-one, e finals) refl }
+  following_more {at} {at'} {i} l f e = record { bound = omega arith; rest = λ finals. f.rest finals ∙ rw (drop-cons word i 0 l, add-one, e finals) refl }
 
-  pub following-done : {at i : ℕ} → length word ≤ i → Following n k rows set word at i
-      → (finals : ℕ) → at ≡ reach (patternOf n k finals rows) set word
+  pub following_done : {at i : ℕ} → length word ≤ i → Following n k rows set word at i
+      → (finals : ℕ) → at ≡ reach (pattern_of n k finals rows) set word
   unfolding reach
-  following-done {at} {i} l f finals =
+  following_done {at} {i} l f finals =
       let whole : i ≡ length word = omega arith in
       sym (f.rest finals ∙ rw (whole, drop-length word) refl)

@@ -10,7 +10,7 @@ use Rattle.sets.specs.Sets.{Within}
 use Rattle.pattern.specs.Pattern.{Pattern}
 use Rattle.pattern.specs.Language.{accepts, Over, SameLanguage}
 use Rattle.pattern.specs.Inclusion.{LanguageWithin, Escapes}
-use Rattle.pattern.proofs.Words.{accepts-union}
+use Rattle.pattern.proofs.Words.{accepts_union}
 
 -- ---- of two flags
 
@@ -36,28 +36,28 @@ alike false false f g = refl
 -- ---- of two sets
 
 module _ {P : Pattern} {x y : ℕ} where
-  pub union-within : SameLanguage P (bit_or x y) y ↔ LanguageWithin P x y
-  union-within = (
-    λ s. record { words = λ w o. within (accepts P x w) (accepts P y w) (sym (accepts-union P x y w) ∙ s.words w o) },
-    λ i. record { words = λ w o. accepts-union P x y w ∙ joins (accepts P x w) (accepts P y w) (i.words w o) },
+  pub union_within : SameLanguage P (bit_or x y) y ↔ LanguageWithin P x y
+  union_within = (
+    λ s. record { words = λ w o. within (accepts P x w) (accepts P y w) (sym (accepts_union P x y w) ∙ s.words w o) },
+    λ i. record { words = λ w o. accepts_union P x y w ∙ joins (accepts P x w) (accepts P y w) (i.words w o) },
   )
 
-  pub union-escapes : {w : List ℕ} → Over P.letters w → (accepts P (bit_or x y) w ≡ accepts P y w → ⊥) → Escapes P x y w
-  union-escapes {w} o f =
-      let (a, r) = apart (accepts P x w) (accepts P y w) (λ e. f (accepts-union P x y w ∙ e)) in
+  pub union_escapes : {w : List ℕ} → Over P.letters w → (accepts P (bit_or x y) w ≡ accepts P y w → ⊥) → Escapes P x y w
+  union_escapes {w} o f =
+      let (a, r) = apart (accepts P x w) (accepts P y w) (λ e. f (accepts_union P x y w ∙ e)) in
       record { letters = o; accepted = a; rejected = r }
 
   -- and then X does not lie within Y
-  pub escapes-within : {w : List ℕ} → Escapes P x y w → LanguageWithin P x y → ⊥
-  escapes-within {w} e i = let z : ◌≡◌ {A = Bool} false true = sym e.rejected ∙ i.words w e.letters e.accepted in cc
+  pub escapes_within : {w : List ℕ} → Escapes P x y w → LanguageWithin P x y → ⊥
+  escapes_within {w} e i = let z : ◌≡◌ {A = Bool} false true = sym e.rejected ∙ i.words w e.letters e.accepted in cc
 
   -- one language is each within the other
-  pub within-both : (LanguageWithin P x y × LanguageWithin P y x) ↔ SameLanguage P x y
-  within-both = (
+  pub within_both : (LanguageWithin P x y × LanguageWithin P y x) ↔ SameLanguage P x y
+  within_both = (
     λ (i, j). record { words = λ w o. alike (accepts P x w) (accepts P y w) (i.words w o) (j.words w o) },
     λ s. (record { words = λ w o e. sym (s.words w o) ∙ e }, record { words = λ w o e. s.words w o ∙ e }),
   )
 
   -- a set within another is so as languages too
-  pub set-within : Within x y → LanguageWithin P x y
-  set-within i = union-within.0 (record { words = λ w o. ap (λ (s : ℕ). accepts P s w) i.joins })
+  pub set_within : Within x y → LanguageWithin P x y
+  set_within i = union_within.0 (record { words = λ w o. ap (λ (s : ℕ). accepts P s w) i.joins })

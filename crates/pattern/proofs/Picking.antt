@@ -7,22 +7,22 @@ use native.Mathlib.Decide.{dec_lt}
 use native.Mathlib.Omega.{arith}
 use lib.Bits.{bit_or}
 use Rattle.sets.specs.Sets.{bit}
-use Rattle.sets.proofs.Bits.{union-empty}
+use Rattle.sets.proofs.Bits.{union_empty}
 use Rattle.sets.proofs.Lowest.{Lowest}
-use Rattle.pattern.specs.Language.{unionBelow}
+use Rattle.pattern.specs.Language.{union_below}
 
 -- states that are not in the set add nothing
-union-gap : (f : ℕ → ℕ) (set t u : ℕ) → t ≤ u → ((s : ℕ) → t ≤ s → s < u → bit set s ≡ 0) → unionBelow f set t ≡ unionBelow f set u
-unfolding unionBelow
-union-gap f set t zero h g = let z : t ≡ 0 = omega arith in ap (unionBelow f set) z
-union-gap f set t (suc u) h g =
+union_gap : (f : ℕ → ℕ) (set t u : ℕ) → t ≤ u → ((s : ℕ) → t ≤ s → s < u → bit set s ≡ 0) → union_below f set t ≡ union_below f set u
+unfolding union_below
+union_gap f set t zero h g = let z : t ≡ 0 = omega arith in ap (union_below f set) z
+union_gap f set t (suc u) h g =
     ⊎_elim
-    (λ (z : t ≡ suc u). ap (unionBelow f set) z)
-    (λ (b : t < suc u). union-gap f set t u (le_of_suc-le-suc b) (λ s l k. g s l (omega arith)) ∙ add u (g u (le_of_suc-le-suc b) (omega arith)))
+    (λ (z : t ≡ suc u). ap (union_below f set) z)
+    (λ (b : t < suc u). union_gap f set t u (le_of_suc-le-suc b) (λ s l k. g s l (omega arith)) ∙ add u (g u (le_of_suc-le-suc b) (omega arith)))
     (eq-or-lt_of_le h)
   where
-    add : (u : ℕ) → bit set u ≡ 0 → unionBelow f set u ≡ bit_or (unionBelow f set u) (bit set u * f u)
-    add u z = rw (z, zero-mul, union-empty)
+    add : (u : ℕ) → bit set u ≡ 0 → union_below f set u ≡ bit_or (union_below f set u) (bit set u * f u)
+    add u z = rw (z, zero-mul, union_empty)
 
 -- the members below `upto` are dealt with; `left` has the others
 pub record Picking (f : ℕ → ℕ) (n set m left : ℕ) : Type 0 where
@@ -30,28 +30,28 @@ pub record Picking (f : ℕ → ℕ) (n set m left : ℕ) : Type 0 where
   pub within : upto ≤ n
   pub others : (s : ℕ) → upto ≤ s → bit left s ≡ bit set s
   pub gone : (s : ℕ) → s < upto → bit left s ≡ 0
-  pub sum : m ≡ unionBelow f set upto
+  pub sum : m ≡ union_below f set upto
   pub fits : left < 2 ^ 64
 
 module _ {f : ℕ → ℕ} {n set : ℕ} where
-  pub picking-first : set < 2 ^ 64 → Picking f n set 0 set
-  unfolding unionBelow
-  picking-first h = record { upto = 0; within = omega arith; others = λ s l. refl; gone = λ s l. absurd (omega arith); sum = refl; fits = h }
+  pub picking_first : set < 2 ^ 64 → Picking f n set 0 set
+  unfolding union_below
+  picking_first h = record { upto = 0; within = omega arith; others = λ s l. refl; gone = λ s l. absurd (omega arith); sum = refl; fits = h }
 
   module _ {m left : ℕ} (p : Picking f n set m left) where
     -- nothing of the set is left below u
-    finish : (u : ℕ) → p.upto ≤ u → ((s : ℕ) → s < u → bit left s ≡ 0) → m ≡ unionBelow f set u
-    finish u h z = p.sum ∙ union-gap f set p.upto u h (λ s l b. sym (p.others s l) ∙ z s b)
+    finish : (u : ℕ) → p.upto ≤ u → ((s : ℕ) → s < u → bit left s ≡ 0) → m ≡ union_below f set u
+    finish u h z = p.sum ∙ union_gap f set p.upto u h (λ s l b. sym (p.others s l) ∙ z s b)
 
-    pub picking-done : left ≡ 0 → m ≡ unionBelow f set n
-    picking-done e = finish n p.within (λ s l. ap (λ (x : ℕ). bit x s) e ∙ ap (λ (x : ℕ). x % 2) (zero-div (2 ^ s)))
+    pub picking_done : left ≡ 0 → m ≡ union_below f set n
+    picking_done e = finish n p.within (λ s l. ap (λ (x : ℕ). bit x s) e ∙ ap (λ (x : ℕ). x % 2) (zero-div (2 ^ s)))
 
-    pub picking-past : {s r : ℕ} → Lowest left s r → n ≤ s → m ≡ unionBelow f set n
-    picking-past w h = finish n p.within (λ i l. w.lower i (omega arith))
+    pub picking_past : {s r : ℕ} → Lowest left s r → n ≤ s → m ≡ union_below f set n
+    picking_past w h = finish n p.within (λ i l. w.lower i (omega arith))
 
-    pub picking-next : {s r m' : ℕ} → Lowest left s r → s < n → m' ≡ bit_or m (f s) → Picking f n set m' r
-    unfolding unionBelow
-    picking-next {s} {r} {m'} w h e =
+    pub picking_next : {s r m' : ℕ} → Lowest left s r → s < n → m' ≡ bit_or m (f s) → Picking f n set m' r
+    unfolding union_below
+    picking_next {s} {r} {m'} w h e =
         record {
           upto = suc s;
           within = h;

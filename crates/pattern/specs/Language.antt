@@ -1,5 +1,5 @@
 -- The language of a set of states.
---   next P set a     the set that letter a takes a set to: the union of the rows of its members (`next-members`)
+--   next P set a     the set that letter a takes a set to: the union of the rows of its members (`next_members`)
 --   reach P set w    the set that the letters of w lead to
 --   accepts P set w  that set meets the finals: the word is accepted
 --   Over k w         an event sequence: a word of letters below k
@@ -10,12 +10,12 @@ use Rattle.sets.specs.Sets.{bit, meets}
 use Rattle.pattern.specs.Pattern.{Pattern, row}
 
 -- the union of the sets f s over the members s of a set, those below n
-unfoldable pub unionBelow : (ℕ → ℕ) → ℕ → ℕ → ℕ
-unionBelow f set zero = 0
-unionBelow f set (suc s) = bit_or (unionBelow f set s) (bit set s * f s)
+unfoldable pub union_below : (ℕ → ℕ) → ℕ → ℕ → ℕ
+union_below f set zero = 0
+union_below f set (suc s) = bit_or (union_below f set s) (bit set s * f s)
 
 unfoldable pub next : Pattern → ℕ → ℕ → ℕ
-next P set a = unionBelow (λ s. row P s a) set P.states
+next P set a = union_below (λ s. row P s a) set P.states
 
 unfoldable pub reach : Pattern → ℕ → List ℕ → ℕ
 reach P set [] = set

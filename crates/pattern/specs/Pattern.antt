@@ -8,8 +8,8 @@ pub record Pattern : Type 0 where
   pub finals : ℕ
   pub rows : List ℕ
 
-abbrev pub patternOf : ℕ → ℕ → ℕ → List ℕ → Pattern
-patternOf n k finals rows = record { states = n; letters = k; finals = finals; rows = rows }
+abbrev pub pattern_of : ℕ → ℕ → ℕ → List ℕ → Pattern
+pattern_of n k finals rows = record { states = n; letters = k; finals = finals; rows = rows }
 
 -- the set reached from state s by letter a
 abbrev pub row : Pattern → ℕ → ℕ → ℕ
@@ -17,10 +17,10 @@ row P s a = get_or P.rows (s * P.letters + a) 0
 
 -- n from 1 to 64, k from 1 to 32
 pub record Sized (n k : ℕ) : Type 0 where
-  pub some-state : 1 ≤ n
-  pub states-fit : n ≤ 64
-  pub some-letter : 1 ≤ k
-  pub letters-fit : k ≤ 32
+  pub some_state : 1 ≤ n
+  pub states_fit : n ≤ 64
+  pub some_letter : 1 ≤ k
+  pub letters_fit : k ≤ 32
 
 -- there are n * k rows
 abbrev pub Tabled : Pattern → Type 0
@@ -34,5 +34,5 @@ AllGood n masks = (i : ℕ) → i < length masks → Good n (get_or masks i 0)
 pub record Valid (P : Pattern) : Type 0 where
   pub sized : Sized P.states P.letters
   pub tabled : Tabled P
-  pub finals-good : Good P.states P.finals
-  pub rows-good : AllGood P.states P.rows
+  pub finals_good : Good P.states P.finals
+  pub rows_good : AllGood P.states P.rows

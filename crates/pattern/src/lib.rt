@@ -3,11 +3,11 @@
 
 ghost use Rattle.std.specs.Prelude.{◌≡◌, ℕ, ◌*◌, ◌≤◌, ◌<◌, length};
 ghost use Rattle.verdict.specs.Tests.{each};
-ghost use Rattle.pattern.specs.Pattern.{Sized, patternOf};
-ghost use Rattle.pattern.specs.Tests.{sizeTest, tableTest, setTest, shapeTest, masksTest, patternTest};
+ghost use Rattle.pattern.specs.Pattern.{Sized, pattern_of};
+ghost use Rattle.pattern.specs.Tests.{size_test, table_test, set_test, shape_test, masks_test, pattern_test};
 ghost use Rattle.pattern.specs.Language.{reach, Over};
 ghost use Rattle.pattern.specs.Language;
-ghost use Rattle.pattern.specs.Judge.{letterTest, judgeTest, judged};
+ghost use Rattle.pattern.specs.Judge.{letter_test, judge_test, judged};
 
 use sets::States;
 use verdict::Verdict;
@@ -25,7 +25,7 @@ pub enum Judged {
 
 // BAD-SIZE: a number of states or letters.
 pub fn size_test(most: usize, v: usize) -> Verdict
-    ensures { result ≡ sizeTest most v }
+    ensures { result ≡ size_test most v }
 {
     if v < 1 {
         return Verdict::Against(10);
@@ -36,14 +36,14 @@ pub fn size_test(most: usize, v: usize) -> Verdict
 // BAD-TABLE: so many rows.
 fn table_test(states: usize, letters: usize, count: usize) -> Verdict
     requires { Sized states letters }
-    ensures { result ≡ tableTest states letters count }
+    ensures { result ≡ table_test states letters count }
 {
     verdict::need(count == states * letters, 11)
 }
 
 // BAD-SET: one mask.
 pub fn set_test(states: usize, mask: u64) -> Verdict
-    ensures { result ≡ setTest states mask }
+    ensures { result ≡ set_test states mask }
 {
     if MASK_BITS <= states {
         return Verdict::Fine;
@@ -53,7 +53,7 @@ pub fn set_test(states: usize, mask: u64) -> Verdict
 
 // BAD-SET: each mask of a list.
 pub fn sets_test(states: usize, masks: &[u64]) -> Verdict
-    ensures { result ≡ each (setTest states) masks.now }
+    ensures { result ≡ each (set_test states) masks.now }
 {
     let mut i = 0;
     while i < masks.len() {
@@ -68,7 +68,7 @@ pub fn sets_test(states: usize, masks: &[u64]) -> Verdict
 
 // BAD-SIZE and BAD-TABLE, which every call looks at first.
 pub fn shape_test(states: usize, letters: usize, rows: &[u64]) -> Verdict
-    ensures { (finals : ℕ) → result ≡ shapeTest (patternOf states letters finals rows.now) }
+    ensures { (finals : ℕ) → result ≡ shape_test (pattern_of states letters finals rows.now) }
 {
     let size = size_test(64, states);
     let Verdict::Fine = size else {
@@ -83,7 +83,7 @@ pub fn shape_test(states: usize, letters: usize, rows: &[u64]) -> Verdict
 
 // BAD-SET for the pattern's own masks.
 pub fn masks_test(states: usize, finals: u64, rows: &[u64]) -> Verdict
-    ensures { (letters : ℕ) → result ≡ masksTest (patternOf states letters finals rows.now) }
+    ensures { (letters : ℕ) → result ≡ masks_test (pattern_of states letters finals rows.now) }
 {
     let test = set_test(states, finals);
     let Verdict::Fine = test else {
@@ -94,7 +94,7 @@ pub fn masks_test(states: usize, finals: u64, rows: &[u64]) -> Verdict
 
 // Judges a pattern: what is against it, if anything.
 pub fn pattern_test(states: usize, letters: usize, finals: u64, rows: &[u64]) -> Verdict
-    ensures { result ≡ patternTest (patternOf states letters finals rows.now) }
+    ensures { result ≡ pattern_test (pattern_of states letters finals rows.now) }
 {
     let shape = shape_test(states, letters, rows);
     let Verdict::Fine = shape else {
@@ -108,7 +108,7 @@ pub fn next(states: usize, letters: usize, rows: &[u64], set: u64, letter: usize
     requires states_bound { states ≤ 64 }
     requires rows_len { length rows.now ≡ states * letters }
     requires letter_lt_letters { letter < letters }
-    ensures { (finals : ℕ) → result ≡ Language.next (patternOf states letters finals rows.now) set letter }
+    ensures { (finals : ℕ) → result ≡ Language.next (pattern_of states letters finals rows.now) set letter }
 {
     let none = States::empty();
     let mut reached = none.mask;
@@ -126,14 +126,14 @@ pub fn next(states: usize, letters: usize, rows: &[u64], set: u64, letter: usize
 
 // BAD-LETTER: one letter.
 fn letter_test(letters: usize, letter: u8) -> Verdict
-    ensures { result ≡ letterTest letters letter }
+    ensures { result ≡ letter_test letters letter }
 {
     verdict::need(wide(letter) < letters, 15)
 }
 
 // BAD-LETTER: each letter of a sequence.
 fn letters_test(letters: usize, sequence: &[u8]) -> Verdict
-    ensures { result ≡ each (letterTest letters) sequence.now }
+    ensures { result ≡ each (letter_test letters) sequence.now }
 {
     let mut i = 0;
     while i < sequence.len() {
@@ -161,7 +161,7 @@ fn judge_test(
     set: u64,
     sequence: &[u8],
 ) -> Verdict
-    ensures { result ≡ judgeTest (patternOf states letters finals rows.now) set sequence.now }
+    ensures { result ≡ judge_test (pattern_of states letters finals rows.now) set sequence.now }
 {
     let pattern = pattern_test(states, letters, finals, rows);
     let Verdict::Fine = pattern else {
@@ -179,7 +179,7 @@ fn reached(states: usize, letters: usize, rows: &[u64], set: u64, sequence: &[u8
     requires states_bound { states ≤ 64 }
     requires rows_len { length rows.now ≡ states * letters }
     requires over { Over letters sequence.now }
-    ensures { (finals : ℕ) → result ≡ reach (patternOf states letters finals rows.now) set sequence.now }
+    ensures { (finals : ℕ) → result ≡ reach (pattern_of states letters finals rows.now) set sequence.now }
 {
     let mut at = set;
     let mut read = 0;
@@ -199,7 +199,7 @@ pub fn judge(
     set: u64,
     sequence: &[u8],
 ) -> Judged
-    ensures { result ≡ judged (patternOf states letters finals rows.now) set sequence.now }
+    ensures { result ≡ judged (pattern_of states letters finals rows.now) set sequence.now }
 {
     let test = judge_test(states, letters, finals, rows, set, sequence);
     if let Verdict::Against(number) = test {

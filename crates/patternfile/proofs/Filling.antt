@@ -6,23 +6,23 @@ use native.Mathlib.Omega.{arith}
 use lib.ListN.{length, set, length-set}
 use Rattle.verdict.specs.declared.Verdict.{Verdict}
 use Rattle.verdict.specs.declared.Verdict.TheVariants.{Fine, Against}
-use Rattle.lent.proofs.Putting.{put-one, put-laid, Left, left-first, left-step, left-done}
-use Rattle.pattern.specs.Pattern.{Sized, patternOf}
-use Rattle.pattern.specs.Tests.{setTest}
+use Rattle.lent.proofs.Putting.{put_one, put_laid, Left, left_first, left_step, left_done}
+use Rattle.pattern.specs.Pattern.{Sized, pattern_of}
+use Rattle.pattern.specs.Tests.{set_test}
 use Rattle.numbers.specs.declared.Number.{Number}
 use Rattle.numbers.specs.declared.Number.TheVariants.{Value, Fault}
-use Rattle.numbers.specs.Numbers.{encode, numberAt, AreBytes}
-use Rattle.numbers.specs.Format.{Format, ended, item, many, Reading, got, refused, heldTo, orRefused, before, reading, encodeAll, ruled}
-use Rattle.numbers.proofs.Formats.{refused-got, file-write-after-read}
-use Rattle.numbers.proofs.Parts.{many-none, many-more, many-length, reading-ended}
-use Rattle.numbers.proofs.Steps.{file-stopped, file-tail, file-whole}
+use Rattle.numbers.specs.Numbers.{encode, number_at, AreBytes}
+use Rattle.numbers.specs.Format.{Format, ended, item, many, Reading, got, refused, held_to, or_refused, before, reading, encode_all, ruled}
+use Rattle.numbers.proofs.Formats.{refused_got, file_write_after_read}
+use Rattle.numbers.proofs.Parts.{many_none, many_more, many_length, reading_ended}
+use Rattle.numbers.proofs.Steps.{file_stopped, file_tail, file_whole}
 use Rattle.patternfile.specs.declared.PatternRead.TheVariants.{Done, Refused}
 use Rattle.patternfile.specs.declared.PatternPart.{PatternPart}
 use Rattle.patternfile.specs.declared.PatternPart.TheVariants.{Whole, Stopped}
-use Rattle.patternfile.specs.PatternFile.{numbersOf, patternFormat}
+use Rattle.patternfile.specs.PatternFile.{numbers_of, pattern_format}
 use Rattle.patternfile.specs.Reader.{Reads}
 use Rattle.patternfile.specs.Parts.{PartOf, Judges, Filled}
-use Rattle.patternfile.proofs.Contents.{part-valid, rows-stand}
+use Rattle.patternfile.proofs.Contents.{part_valid, rows_stand}
 
 -- ---- reading that went well, number by number
 
@@ -32,23 +32,23 @@ pub record First (rest : ℕ → Format) (s us : List ℕ) (next v to : ℕ) : T
   pub are : us ≡ v ∷ ws
   pub read : reading (rest v) s to ≡ got ws next
 
-pub item-first : (test : ℕ → Verdict) (rest : ℕ → Format) (s : List ℕ) (at : ℕ) (us : List ℕ) (next v to : ℕ) → numberAt s at ≡ Value v to → reading (item test rest) s at ≡ got us next
+pub item_first : (test : ℕ → Verdict) (rest : ℕ → Format) (s : List ℕ) (at : ℕ) (us : List ℕ) (next v to : ℕ) → number_at s at ≡ Value v to → reading (item test rest) s at ≡ got us next
     → First rest s us next v to
 unfolding reading
-item-first test rest s at us next v to e h =
-    judged (test v) (sym (ap (λ (n : Number). orRefused (heldTo test at n) (λ v next. before v (reading (rest v) s next))) e) ∙ h)
+item_first test rest s at us next v to e h =
+    judged (test v) (sym (ap (λ (n : Number). or_refused (held_to test at n) (λ v next. before v (reading (rest v) s next))) e) ∙ h)
   where
     go : (r : Reading) → reading (rest v) s to ≡ r → before v r ≡ got us next → First rest s us next v to
-    go (refused w p) q h = absurd (refused-got h)
+    go (refused w p) q h = absurd (refused_got h)
     go (got ws n) q h = let x : us ≡ v ∷ ws = cc in let y : n ≡ next = cc in record { ws = ws; are = x; read = q ∙ ap (got ws) y }
 
-    judged : (u : Verdict) → orRefused (ruled u at v to) (λ v next. before v (reading (rest v) s next)) ≡ got us next → First rest s us next v to
-    judged (Against w) h = absurd (refused-got h)
+    judged : (u : Verdict) → or_refused (ruled u at v to) (λ v next. before v (reading (rest v) s next)) ≡ got us next → First rest s us next v to
+    judged (Against w) h = absurd (refused_got h)
     judged Fine h = go (reading (rest v) s to) refl h
 
-pub item-fault : (test : ℕ → Verdict) (rest : ℕ → Format) (s : List ℕ) (at : ℕ) (us : List ℕ) (next : ℕ) {w p : ℕ} → numberAt s at ≡ Fault w p → reading (item test rest) s at ≡ got us next → ⊥
+pub item_fault : (test : ℕ → Verdict) (rest : ℕ → Format) (s : List ℕ) (at : ℕ) (us : List ℕ) (next : ℕ) {w p : ℕ} → number_at s at ≡ Fault w p → reading (item test rest) s at ≡ got us next → ⊥
 unfolding reading
-item-fault test rest s at us next e h = refused-got (sym (ap (λ (n : Number). orRefused (heldTo test at n) (λ v next. before v (reading (rest v) s next))) e) ∙ h)
+item_fault test rest s at us next e h = refused_got (sym (ap (λ (n : Number). or_refused (held_to test at n) (λ v next. before v (reading (rest v) s next))) e) ∙ h)
 
 -- ---- the loop
 
@@ -62,8 +62,8 @@ pub record Filling (s : List ℕ) (at count : ℕ) (old rows : List ℕ) (i plac
   pub long : length rows ≡ length old
   pub left : (test : ℕ → Verdict) (vs : List ℕ) (next : ℕ) → reading (many count test ended) s at ≡ got vs next → Remaining s old rows test vs next (count - i) i place
 
-pub filling-first : (s : List ℕ) (at count : ℕ) (old : List ℕ) → count ≤ length old → Filling s at count old old 0 at
-filling-first s at count old l =
+pub filling_first : (s : List ℕ) (at count : ℕ) (old : List ℕ) → count ≤ length old → Filling s at count old old 0 at
+filling_first s at count old l =
     let e : count ≡ count - 0 = omega arith in
     record {
       long = refl;
@@ -71,83 +71,83 @@ filling-first s at count old l =
           record {
             us = vs;
             stand = ap (λ (n : ℕ). reading (many n test ended) s at) (sym e) ∙ h;
-            laying = left-first old 0 vs (omega (arith, many-length count test s at vs next h));
+            laying = left_first old 0 vs (omega (arith, many_length count test s at vs next h));
           };
     }
 
 module _ {s : List ℕ} {at count : ℕ} {old rows : List ℕ} {i place : ℕ} (g : Filling s at count old rows i place) where
   -- one number at least is left
-  some-left : i < count → (test : ℕ → Verdict) (us : List ℕ) (next : ℕ) → reading (many (count - i) test ended) s place ≡ got us next
+  some_left : i < count → (test : ℕ → Verdict) (us : List ℕ) (next : ℕ) → reading (many (count - i) test ended) s place ≡ got us next
       → reading (item test (λ v. many (count - i - 1) test ended)) s place ≡ got us next
-  some-left h test us next q =
+  some_left h test us next q =
       let p : 0 < count - i = omega arith in
-      sym (ap (λ (f : Format). reading f s place) (many-more (count - i) test ended p)) ∙ q
+      sym (ap (λ (f : Format). reading f s place) (many_more (count - i) test ended p)) ∙ q
 
-  pub filling-stopped : {x : Number} {w p : ℕ} → i < count → x ≡ numberAt s place → x ≡ Fault w p → Filled s at count old rows
-  filling-stopped h e q =
+  pub filling_stopped : {x : Number} {w p : ℕ} → i < count → x ≡ number_at s place → x ≡ Fault w p → Filled s at count old rows
+  filling_stopped h e q =
       record {
         filled = λ test vs next r.
             let l : Remaining s old rows test vs next (count - i) i place = g.left test vs next r in
-            absurd (item-fault test (λ v. many (count - i - 1) test ended) s place l.us next (sym e ∙ q) (some-left h test l.us next l.stand));
+            absurd (item_fault test (λ v. many (count - i - 1) test ended) s place l.us next (sym e ∙ q) (some_left h test l.us next l.stand));
       }
 
-  stepped : {x : Number} {v to : ℕ} → i < count → i < length rows → x ≡ numberAt s place → x ≡ Value v to → (test : ℕ → Verdict) (vs : List ℕ) (next : ℕ)
+  stepped : {x : Number} {v to : ℕ} → i < count → i < length rows → x ≡ number_at s place → x ≡ Value v to → (test : ℕ → Verdict) (vs : List ℕ) (next : ℕ)
       → Remaining s old rows test vs next (count - i) i place → Remaining s old (set rows i v) test vs next (count - (i + 1)) (i + 1) to
   stepped {v} {to} h m e q test vs next l =
       let n : count - (i + 1) ≡ count - i - 1 = omega arith in
       let r : First (λ v. many (count - i - 1) test ended) s l.us next v to =
-      item-first test (λ v. many (count - i - 1) test ended) s place l.us next v to (sym e ∙ q) (some-left h test l.us next l.stand) in
-      record { us = r.ws; stand = rw n r.read; laying = left-step r.ws l.laying r.are (put-one rows i v m) }
+      item_first test (λ v. many (count - i - 1) test ended) s place l.us next v to (sym e ∙ q) (some_left h test l.us next l.stand) in
+      record { us = r.ws; stand = rw n r.read; laying = left_step r.ws l.laying r.are (put_one rows i v m) }
 
-  pub filling-step : {x : Number} {v to : ℕ} → i < count → i < length rows → x ≡ numberAt s place → x ≡ Value v to → Filling s at count old (set rows i v) (i + 1) to
-  filling-step {v} {to} h m e q = record { long = length-set rows i v ∙ g.long; left = λ test vs next r. stepped h m e q test vs next (g.left test vs next r) }
+  pub filling_step : {x : Number} {v to : ℕ} → i < count → i < length rows → x ≡ number_at s place → x ≡ Value v to → Filling s at count old (set rows i v) (i + 1) to
+  filling_step {v} {to} h m e q = record { long = length-set rows i v ∙ g.long; left = λ test vs next r. stepped h m e q test vs next (g.left test vs next r) }
 
-  pub filling-done : count ≤ i → Filled s at count old rows
-  filling-done h =
+  pub filling_done : count ≤ i → Filled s at count old rows
+  filling_done h =
       record {
         filled = λ test vs next r.
             let l : Remaining s old rows test vs next (count - i) i place = g.left test vs next r in
             let z : count - i ≡ 0 = omega arith in
             let n : got [] place ≡ got l.us next =
-            sym (reading-ended s place)
-            ∙ sym (ap (λ (f : Format). reading f s place) (many-none test ended))
+            sym (reading_ended s place)
+            ∙ sym (ap (λ (f : Format). reading f s place) (many_none test ended))
             ∙ sym (ap (λ (m : ℕ). reading (many m test ended) s place) z)
             ∙ l.stand in
             let e : l.us ≡ [] = cc in
-            put-laid (left-done l.laying e);
+            put_laid (left_done l.laying e);
       }
 
 -- ---- the whole reader
 
 module _ (s old : List ℕ) {r : PatternPart} (j : Judges s (length old) r) where
-  pub reads-stopped : {w place : ℕ} → r ≡ Stopped w place → Reads s old (Refused w place) old
-  reads-stopped q = record { fault = file-stopped (patternFormat (length old)) s (subst (Judges s (length old)) q j); unchanged = refl }
+  pub reads_stopped : {w place : ℕ} → r ≡ Stopped w place → Reads s old (Refused w place) old
+  reads_stopped q = record { fault = file_stopped (pattern_format (length old)) s (subst (Judges s (length old)) q j); unchanged = refl }
 
   module _ {n k finals x y end : ℕ} (q : r ≡ Whole n k finals x y end) where
-    found : (rows : List ℕ) × PartOf (length old) s (patternOf n k finals rows) x y end
+    found : (rows : List ℕ) × PartOf (length old) s (pattern_of n k finals rows) x y end
     found = subst (Judges s (length old)) q j
 
-    pub reads-tail : end < length s → Reads s old (Refused 22 end) old
-    reads-tail h = record { fault = file-tail (patternFormat (length old)) s found.1.read h; unchanged = refl }
+    pub reads_tail : end < length s → Reads s old (Refused 22 end) old
+    reads_tail h = record { fault = file_tail (pattern_format (length old)) s found.1.read h; unchanged = refl }
 
     module _ (are : AreBytes s) where
-      pub reads-sized : Sized n k
-      reads-sized = (part-valid are found.1).valid.sized
+      pub reads_sized : Sized n k
+      reads_sized = (part_valid are found.1).valid.sized
 
-      pub reads-room : n * k ≤ length old
-      reads-room = (part-valid are found.1).enough
+      pub reads_room : n * k ≤ length old
+      reads_room = (part_valid are found.1).enough
 
-      pub reads-done : {new : List ℕ} {at count : ℕ} → at ≡ 2 + length (encode finals) → count ≡ n * k → length s ≤ end → Filled s at count old new
+      pub reads_done : {new : List ℕ} {at count : ℕ} → at ≡ 2 + length (encode finals) → count ≡ n * k → length s ≤ end → Filled s at count old new
           → Reads s old (Done n k finals x y) new
-      reads-done e c h g =
-          let numbers = numbersOf (patternOf n k finals found.0) x y in
-          let whole = file-whole (patternFormat (length old)) s found.1.read h in
+      reads_done e c h g =
+          let numbers = numbers_of (pattern_of n k finals found.0) x y in
+          let whole = file_whole (pattern_format (length old)) s found.1.read h in
           record {
             rows = found.0;
             file =
                 record {
                   tabled = found.1.tabled;
-                  read = whole ∙ ap (got numbers) (file-write-after-read (patternFormat (length old)) s numbers end are whole).takes-all;
+                  read = whole ∙ ap (got numbers) (file_write_after_read (pattern_format (length old)) s numbers end are whole).takes_all;
                 };
-            written = g.filled (setTest n) found.0 (2 + length (encode finals) + length (encodeAll found.0)) (rw (e, c) (rows-stand are found.1));
+            written = g.filled (set_test n) found.0 (2 + length (encode finals) + length (encode_all found.0)) (rw (e, c) (rows_stand are found.1));
           }

@@ -6,85 +6,85 @@ use mathlib.Core.Path.{◌≡◌, refl, sym, ap, ◌∙◌, subst}
 use native.Mathlib.Omega.{arith}
 use lib.ListN.{length}
 use Rattle.pattern.specs.Pattern.{Sized}
-use Rattle.pattern.specs.Tests.{sizeTest, setTest}
-use Rattle.pattern.proofs.Validity.{sized-fine, space-fine}
-use Rattle.pattern.proofs.Refusals.{space-line}
+use Rattle.pattern.specs.Tests.{size_test, set_test}
+use Rattle.pattern.proofs.Validity.{sized_fine, space_fine}
+use Rattle.pattern.proofs.Refusals.{space_line}
 use Rattle.numbers.specs.declared.Number.{Number}
 use Rattle.numbers.specs.declared.Number.TheVariants.{Value, Fault}
-use Rattle.numbers.specs.Numbers.{numberAt}
-use Rattle.numbers.specs.Format.{ended, item, many, Reading, got, refused, heldTo, reading}
-use Rattle.numbers.proofs.RoundTrip.{fault-value}
+use Rattle.numbers.specs.Numbers.{number_at}
+use Rattle.numbers.specs.Format.{ended, item, many, Reading, got, refused, held_to, reading}
+use Rattle.numbers.proofs.RoundTrip.{fault_value}
 use Rattle.numbers.proofs.Formats.{held}
-use Rattle.numbers.proofs.Parts.{many-length}
-use Rattle.numbers.proofs.Steps.{Reached, reached-first, reached-item, reached-gate, reached-many, reached-end, stopped-gate, stopped-many}
+use Rattle.numbers.proofs.Parts.{many_length}
+use Rattle.numbers.proofs.Steps.{Reached, reached_first, reached_item, reached_gate, reached_many, reached_end, stopped_gate, stopped_many}
 use Rattle.patternfile.specs.declared.PatternPart.{PatternPart}
 use Rattle.patternfile.specs.declared.PatternPart.TheVariants.{Whole}
-use Rattle.patternfile.specs.PatternFile.{startsThen, setsThen, afterLetters, patternThen, patternFormat}
-use Rattle.patternfile.specs.Parts.{Judges, passed, stoppedBy}
+use Rattle.patternfile.specs.PatternFile.{starts_then, sets_then, after_letters, pattern_then, pattern_format}
+use Rattle.patternfile.specs.Parts.{Judges, passed, stopped_by}
 
 -- ---- numbers passed over
 
-abbrev pub numbersIn : Reading → List ℕ
-numbersIn (got vs next) = vs
-numbersIn (refused w p) = []
+abbrev pub numbers_in : Reading → List ℕ
+numbers_in (got vs next) = vs
+numbers_in (refused w p) = []
 
-pub passed-got : (count : ℕ) (r : Reading) {x : Number} {m next : ℕ} → x ≡ passed count r → x ≡ Value m next → r ≡ got (numbersIn r) next
-passed-got count (got vs n) {m} {next} e q = let h : Value count n ≡ Value m next = sym e ∙ q in let y : n ≡ next = cc in ap (got vs) y
-passed-got count (refused w p) e q = absurd (fault-value (sym e ∙ q))
+pub passed_got : (count : ℕ) (r : Reading) {x : Number} {m next : ℕ} → x ≡ passed count r → x ≡ Value m next → r ≡ got (numbers_in r) next
+passed_got count (got vs n) {m} {next} e q = let h : Value count n ≡ Value m next = sym e ∙ q in let y : n ≡ next = cc in ap (got vs) y
+passed_got count (refused w p) e q = absurd (fault_value (sym e ∙ q))
 
-pub passed-refused : (count : ℕ) (r : Reading) {x : Number} {w p : ℕ} → x ≡ passed count r → x ≡ Fault w p → r ≡ refused w p
-passed-refused count (refused v o) {w} {p} e q = let h : Fault v o ≡ Fault w p = sym e ∙ q in let a : v ≡ w = cc in let b : o ≡ p = cc in cc
-passed-refused count (got vs n) e q = absurd (fault-value (sym q ∙ e))
+pub passed_refused : (count : ℕ) (r : Reading) {x : Number} {w p : ℕ} → x ≡ passed count r → x ≡ Fault w p → r ≡ refused w p
+passed_refused count (refused v o) {w} {p} e q = let h : Fault v o ≡ Fault w p = sym e ∙ q in let a : v ≡ w = cc in let b : o ≡ p = cc in cc
+passed_refused count (got vs n) e q = absurd (fault_value (sym q ∙ e))
 
 -- the rows of n * k from a place on, where they can be read
-abbrev pub rowsFrom : List ℕ → ℕ → ℕ → ℕ → List ℕ
-rowsFrom s n k at = numbersIn (reading (many (n * k) (setTest n) ended) s at)
+abbrev pub rows_from : List ℕ → ℕ → ℕ → ℕ → List ℕ
+rows_from s n k at = numbers_in (reading (many (n * k) (set_test n) ended) s at)
 
 -- ---- the steps
 
 module _ (room : ℕ) (s : List ℕ) where
   -- a fault goes straight up
-  pub goes-up : {r : PatternPart} {x : Number} {w p : ℕ} → r ≡ stoppedBy x → x ≡ Fault w p → reading (patternFormat room) s 0 ≡ refused w p → Judges s room r
-  goes-up e q h = subst (Judges s room) (sym (e ∙ ap stoppedBy q)) h
+  pub goes_up : {r : PatternPart} {x : Number} {w p : ℕ} → r ≡ stopped_by x → x ≡ Fault w p → reading (pattern_format room) s 0 ≡ refused w p → Judges s room r
+  goes_up e q h = subst (Judges s room) (sym (e ∙ ap stopped_by q)) h
 
-  pub to-states : Reached (patternFormat room) s [] (item (sizeTest 64) (λ n. item (sizeTest 32) (λ k. afterLetters room n k ended))) 0
-  unfolding patternFormat patternThen
-  to-states = reached-first (patternFormat room) s
+  pub to_states : Reached (pattern_format room) s [] (item (size_test 64) (λ n. item (size_test 32) (λ k. after_letters room n k ended))) 0
+  unfolding pattern_format pattern_then
+  to_states = reached_first (pattern_format room) s
 
-  module _ {a b : Number} {n k at₁ at₂ : ℕ} (ea : a ≡ heldTo (sizeTest 64) 0 (numberAt s 0)) (qa : a ≡ Value n at₁) (eb : b ≡ heldTo (sizeTest 32) at₁ (numberAt s at₁)) (qb : b ≡ Value k at₂)
+  module _ {a b : Number} {n k at₁ at₂ : ℕ} (ea : a ≡ held_to (size_test 64) 0 (number_at s 0)) (qa : a ≡ Value n at₁) (eb : b ≡ held_to (size_test 32) at₁ (number_at s at₁)) (qb : b ≡ Value k at₂)
       {states letters : ℕ} (es : states ≡ n) (el : letters ≡ k) where
-    pub sizes-fine : Sized states letters
-    sizes-fine = rw (es, el) (sized-fine (held (sizeTest 64) 0 (numberAt s 0) (sym ea ∙ qa)).range (held (sizeTest 32) at₁ (numberAt s at₁) (sym eb ∙ qb)).range)
+    pub sizes_fine : Sized states letters
+    sizes_fine = rw (es, el) (sized_fine (held (size_test 64) 0 (number_at s 0) (sym ea ∙ qa)).range (held (size_test 32) at₁ (number_at s at₁) (sym eb ∙ qb)).range)
 
-    pub to-room : Reached (patternFormat room) s (states ∷ letters ∷ []) (afterLetters room states letters ended) at₂
-    to-room = rw (es, el) (reached-item (reached-item to-states ea qa) eb qb)
+    pub to_room : Reached (pattern_format room) s (states ∷ letters ∷ []) (after_letters room states letters ended) at₂
+    to_room = rw (es, el) (reached_item (reached_item to_states ea qa) eb qb)
 
-  module _ {us : List ℕ} (n k : ℕ) {at count : ℕ} (g : Reached (patternFormat room) s us (afterLetters room n k ended) at) (c : count ≡ n * k) where
-    pub stop-room : room < count → reading (patternFormat room) s 0 ≡ refused 14 at
-    stop-room h = stopped-gate g (((space-line room (n * k)).against 14).1 (inl (λ l. omega (arith, c), refl)))
+  module _ {us : List ℕ} (n k : ℕ) {at count : ℕ} (g : Reached (pattern_format room) s us (after_letters room n k ended) at) (c : count ≡ n * k) where
+    pub stop_room : room < count → reading (pattern_format room) s 0 ≡ refused 14 at
+    stop_room h = stopped_gate g (((space_line room (n * k)).against 14).1 (inl (λ l. omega (arith, c), refl)))
 
-    pub to-finals : count ≤ room → Reached (patternFormat room) s us (setsThen n k ended) at
-    to-finals h = reached-gate g ((space-fine room (n * k)).1 (rw c at h))
+    pub to_finals : count ≤ room → Reached (pattern_format room) s us (sets_then n k ended) at
+    to_finals h = reached_gate g ((space_fine room (n * k)).1 (rw c at h))
 
-  module _ {us : List ℕ} (n k : ℕ) {at count : ℕ} (g : Reached (patternFormat room) s us (many (n * k) (setTest n) (startsThen n ended)) at) (c : count ≡ n * k)
-      {d : Number} (ed : d ≡ passed count (reading (many count (setTest n) ended) s at)) where
-    passed-all : d ≡ passed (n * k) (reading (many (n * k) (setTest n) ended) s at)
-    passed-all = ed ∙ ap (λ (m : ℕ). passed m (reading (many m (setTest n) ended) s at)) c
+  module _ {us : List ℕ} (n k : ℕ) {at count : ℕ} (g : Reached (pattern_format room) s us (many (n * k) (set_test n) (starts_then n ended)) at) (c : count ≡ n * k)
+      {d : Number} (ed : d ≡ passed count (reading (many count (set_test n) ended) s at)) where
+    passed_all : d ≡ passed (n * k) (reading (many (n * k) (set_test n) ended) s at)
+    passed_all = ed ∙ ap (λ (m : ℕ). passed m (reading (many m (set_test n) ended) s at)) c
 
-    pub stop-rows : {w p : ℕ} → d ≡ Fault w p → reading (patternFormat room) s 0 ≡ refused w p
-    stop-rows q = stopped-many (n * k) (setTest n) (startsThen n ended) g (passed-refused (n * k) _ passed-all q)
+    pub stop_rows : {w p : ℕ} → d ≡ Fault w p → reading (pattern_format room) s 0 ≡ refused w p
+    stop_rows q = stopped_many (n * k) (set_test n) (starts_then n ended) g (passed_refused (n * k) _ passed_all q)
 
     module _ {m at_x : ℕ} (qd : d ≡ Value m at_x) where
-      rows-read : reading (many (n * k) (setTest n) ended) s at ≡ got (rowsFrom s n k at) at_x
-      rows-read = passed-got (n * k) (reading (many (n * k) (setTest n) ended) s at) passed-all qd
+      rows_read : reading (many (n * k) (set_test n) ended) s at ≡ got (rows_from s n k at) at_x
+      rows_read = passed_got (n * k) (reading (many (n * k) (set_test n) ended) s at) passed_all qd
 
-      pub rows-tabled : length (rowsFrom s n k at) ≡ n * k
-      rows-tabled = many-length (n * k) (setTest n) s at (rowsFrom s n k at) at_x rows-read
+      pub rows_tabled : length (rows_from s n k at) ≡ n * k
+      rows_tabled = many_length (n * k) (set_test n) s at (rows_from s n k at) at_x rows_read
 
-      pub to-x : Reached (patternFormat room) s (us ++ rowsFrom s n k at) (startsThen n ended) at_x
-      to-x = reached-many (n * k) (setTest n) (startsThen n ended) g rows-read
+      pub to_x : Reached (pattern_format room) s (us ++ rows_from s n k at) (starts_then n ended) at_x
+      to_x = reached_many (n * k) (set_test n) (starts_then n ended) g rows_read
 
-  pub all-read : {n k finals x y end : ℕ} (rows : List ℕ) → Reached (patternFormat room) s (n ∷ k ∷ finals ∷ ((rows ++ (x ∷ [])) ++ (y ∷ []))) ended end
+  pub all_read : {n k finals x y end : ℕ} (rows : List ℕ) → Reached (pattern_format room) s (n ∷ k ∷ finals ∷ ((rows ++ (x ∷ [])) ++ (y ∷ []))) ended end
       → length rows ≡ n * k → Judges s room (Whole n k finals x y end)
-  all-read {n} {k} {finals} {x} {y} {end} rows g t =
-      (rows, record { tabled = t; read = reached-end g ∙ ap (λ (l : List ℕ). got (n ∷ k ∷ finals ∷ l) end) (append_assoc rows (x ∷ []) (y ∷ [])) })
+  all_read {n} {k} {finals} {x} {y} {end} rows g t =
+      (rows, record { tabled = t; read = reached_end g ∙ ap (λ (l : List ℕ). got (n ∷ k ∷ finals ∷ l) end) (append_assoc rows (x ∷ []) (y ∷ [])) })

@@ -7,31 +7,31 @@ use Rattle.verdict.specs.declared.Verdict.TheVariants.{Fine}
 use Rattle.verdict.specs.Tests.{Among}
 use Rattle.verdict.specs.Lines.{GoesBy}
 use Rattle.verdict.specs.Lines.Lines.{none, line}
-use Rattle.verdict.proofs.Lines.{no-lines, lines-then, same-number, lines-among}
+use Rattle.verdict.proofs.Lines.{no_lines, lines_then, same_number, lines_among}
 use Rattle.pattern.specs.Pattern.{Pattern}
-use Rattle.pattern.specs.Refusals.{MasksGood, shapeLines}
-use Rattle.pattern.proofs.Refusals.{set-line, space-line, pattern-lines}
-use Rattle.patternfile.specs.PatternFile.{fileBytes}
-use Rattle.patternfile.specs.Writer.{writeTest, Allowed}
-use Rattle.patternfile.specs.Refusals.{writeLines, writeNumbers}
+use Rattle.pattern.specs.Refusals.{MasksGood, shape_lines}
+use Rattle.pattern.proofs.Refusals.{set_line, space_line, pattern_lines_lem}
+use Rattle.patternfile.specs.PatternFile.{file_bytes}
+use Rattle.patternfile.specs.Writer.{write_test, Allowed}
+use Rattle.patternfile.specs.Refusals.{write_lines, write_numbers}
 
 module _ (P : Pattern) (x y room : ℕ) where
   -- refused exactly where a line applies, and by the first
-  pub write-lines : GoesBy (writeLines P x y room) (writeTest P x y room)
-  unfolding writeTest
-  write-lines =
-      same-number (shapeLines P none) 12 _ (λ p. (p.0, p.1.0, p.1.1), λ q. (q.0, (q.1, q.2)))
-      (same-number (shapeLines P (line 12 (MasksGood P) none)) 12 _ (λ p. p, λ p. p)
-      (lines-then _ (pattern-lines P) (lines-then _ (set-line P.states x) (lines-then _ (set-line P.states y) (lines-then _ (space-line room (length (fileBytes P x y))) no-lines)))))
+  pub write_lines_lem : GoesBy (write_lines P x y room) (write_test P x y room)
+  unfolding write_test
+  write_lines_lem =
+      same_number (shape_lines P none) 12 _ (λ p. (p.0, p.1.0, p.1.1), λ q. (q.0, (q.1, q.2)))
+      (same_number (shape_lines P (line 12 (MasksGood P) none)) 12 _ (λ p. p, λ p. p)
+      (lines_then _ (pattern_lines_lem P) (lines_then _ (set_line P.states x) (lines_then _ (set_line P.states y) (lines_then _ (space_line room (length (file_bytes P x y))) no_lines)))))
 
   -- and nothing is refused exactly where the pattern is valid, X and Y are sets of its states and the buffer has room
-  pub write-fine : (writeTest P x y room ≡ Fine) ↔ Allowed P x y room
-  write-fine = (
+  pub write_fine : (write_test P x y room ≡ Fine) ↔ Allowed P x y room
+  write_fine = (
     λ e.
-        let (sized, (tabled, ((masks, gx, gy), (enough, _)))) = write-lines.fine.0 e in
-        record { valid = record { sized = sized; tabled = tabled; finals-good = masks.0; rows-good = masks.1 }; good-x = gx; good-y = gy; enough = enough },
-    λ a. let v = a.valid in write-lines.fine.1 (v.sized, (v.tabled, (((v.finals-good, v.rows-good), a.good-x, a.good-y), (a.enough, tt)))),
+        let (sized, (tabled, ((masks, gx, gy), (enough, _)))) = write_lines_lem.fine.0 e in
+        record { valid = record { sized = sized; tabled = tabled; finals_good = masks.0; rows_good = masks.1 }; good_x = gx; good_y = gy; enough = enough },
+    λ a. let v = a.valid in write_lines_lem.fine.1 (v.sized, (v.tabled, (((v.finals_good, v.rows_good), a.good_x, a.good_y), (a.enough, tt)))),
   )
 
-  pub among-write : Among writeNumbers (writeTest P x y room)
-  among-write = lines-among write-lines
+  pub among_write : Among write_numbers (write_test P x y room)
+  among_write = lines_among write_lines_lem

@@ -5,12 +5,12 @@ use mathlib.Core.Path.{◌≡◌, refl, ap, ◌∙◌}
 use native.Mathlib.Omega.{arith}
 use lib.ListN.{length, length-append}
 use Rattle.lent.specs.Lent.{Put}
-use Rattle.lent.proofs.Putting.{put-length, put-then}
+use Rattle.lent.proofs.Putting.{put_length, put_then}
 use Rattle.pattern.specs.Pattern.{Pattern}
-use Rattle.numbers.specs.Format.{encodeAll}
-use Rattle.numbers.proofs.ListLoops.{all-ten}
-use Rattle.numbers.proofs.Parts.{encode-append}
-use Rattle.patternfile.specs.PatternFile.{fileBytes}
+use Rattle.numbers.specs.Format.{encode_all}
+use Rattle.numbers.proofs.ListLoops.{all_ten}
+use Rattle.numbers.proofs.Parts.{encode_append}
+use Rattle.patternfile.specs.PatternFile.{file_bytes}
 
 module _ (P : Pattern) (x y : ℕ) where
   abbrev head : List ℕ
@@ -19,35 +19,35 @@ module _ (P : Pattern) (x y : ℕ) where
   abbrev starts : List ℕ
   starts = x ∷ y ∷ []
 
-  parts : fileBytes P x y ≡ encodeAll head ++ (encodeAll P.rows ++ encodeAll starts)
-  unfolding fileBytes
-  parts = encode-append head (P.rows ++ starts) ∙ ap (λ (l : List ℕ). encodeAll head ++ l) (encode-append P.rows starts)
+  parts : file_bytes P x y ≡ encode_all head ++ (encode_all P.rows ++ encode_all starts)
+  unfolding file_bytes
+  parts = encode_append head (P.rows ++ starts) ∙ ap (λ (l : List ℕ). encode_all head ++ l) (encode_append P.rows starts)
 
-  pub parts-size : length (fileBytes P x y) ≡ length (encodeAll head) + length (encodeAll P.rows) + length (encodeAll starts)
-  parts-size = omega (arith, ap length parts, length-append (encodeAll head) (encodeAll P.rows ++ encodeAll starts), length-append (encodeAll P.rows) (encodeAll starts))
+  pub parts_size : length (file_bytes P x y) ≡ length (encode_all head) + length (encode_all P.rows) + length (encode_all starts)
+  parts_size = omega (arith, ap length parts, length-append (encode_all head) (encode_all P.rows ++ encode_all starts), length-append (encode_all P.rows) (encode_all starts))
 
   -- ten bytes for each number at most
-  pub part-ten : length (fileBytes P x y) ≤ 10 * length P.rows + 50
-  part-ten = omega (arith, parts-size, all-ten P.rows, all-ten head, all-ten starts)
+  pub part_ten : length (file_bytes P x y) ≤ 10 * length P.rows + 50
+  part_ten = omega (arith, parts_size, all_ten P.rows, all_ten head, all_ten starts)
 
   -- the head as the code has it: n and k as 64-bit numbers
   module _ {n k : ℕ} (en : n ≡ P.states) (ek : k ≡ P.letters) where
-    pub sizes-add : {a b c : ℕ} → a ≡ length (encodeAll (n ∷ k ∷ P.finals ∷ [])) → b ≡ length (encodeAll P.rows) → c ≡ length (encodeAll starts)
-        → a + b + c ≡ length (fileBytes P x y)
-    sizes-add {a} p q r = let h : a ≡ length (encodeAll head) = p ∙ rw (en, ek) in omega (arith, parts-size)
+    pub sizes_add : {a b c : ℕ} → a ≡ length (encode_all (n ∷ k ∷ P.finals ∷ [])) → b ≡ length (encode_all P.rows) → c ≡ length (encode_all starts)
+        → a + b + c ≡ length (file_bytes P x y)
+    sizes_add {a} p q r = let h : a ≡ length (encode_all head) = p ∙ rw (en, ek) in omega (arith, parts_size)
 
-    module _ (old : List ℕ) (at : ℕ) (room : at + length (fileBytes P x y) ≤ length old) where
-      pub room-head : at + length (encodeAll (n ∷ k ∷ P.finals ∷ [])) ≤ length old
-      room-head = omega (arith, room, sizes-add refl refl refl)
+    module _ (old : List ℕ) (at : ℕ) (room : at + length (file_bytes P x y) ≤ length old) where
+      pub room_head : at + length (encode_all (n ∷ k ∷ P.finals ∷ [])) ≤ length old
+      room_head = omega (arith, room, sizes_add refl refl refl)
 
-      module _ {a : ℕ} {o₁ : List ℕ} (s : Put old at (encodeAll (n ∷ k ∷ P.finals ∷ [])) a o₁) where
-        pub room-rows : a + length (encodeAll P.rows) ≤ length o₁
-        room-rows = omega (arith, room, sizes-add refl refl refl, s.ends, put-length s)
+      module _ {a : ℕ} {o₁ : List ℕ} (s : Put old at (encode_all (n ∷ k ∷ P.finals ∷ [])) a o₁) where
+        pub room_rows : a + length (encode_all P.rows) ≤ length o₁
+        room_rows = omega (arith, room, sizes_add refl refl refl, s.ends, put_length s)
 
-        module _ {b : ℕ} {o₂ : List ℕ} (u : Put o₁ a (encodeAll P.rows) b o₂) where
-          pub room-starts : b + length (encodeAll starts) ≤ length o₂
-          room-starts = omega (arith, room, sizes-add refl refl refl, s.ends, u.ends, put-length s, put-length u)
+        module _ {b : ℕ} {o₂ : List ℕ} (u : Put o₁ a (encode_all P.rows) b o₂) where
+          pub room_starts : b + length (encode_all starts) ≤ length o₂
+          room_starts = omega (arith, room, sizes_add refl refl refl, s.ends, u.ends, put_length s, put_length u)
 
           -- the three parts, put one after the other
-          pub all-put : {end : ℕ} {new : List ℕ} → Put o₂ b (encodeAll starts) end new → Put old at (fileBytes P x y) end new
-          all-put v = rw parts (put-then (rw (en, ek) at s) (put-then u v))
+          pub all_put : {end : ℕ} {new : List ℕ} → Put o₂ b (encode_all starts) end new → Put old at (file_bytes P x y) end new
+          all_put v = rw parts (put_then (rw (en, ek) at s) (put_then u v))

@@ -3,14 +3,14 @@
 
 ghost use Rattle.std.specs.Prelude.{◌≡◌, ◌+◌, ◌*◌, ◌≤◌, length};
 ghost use Rattle.lent.specs.Lent.{Put};
-ghost use Rattle.pattern.specs.Pattern.{Sized, patternOf};
-ghost use Rattle.pattern.specs.Tests.{sizeTest, setTest};
-ghost use Rattle.numbers.specs.Numbers.{numberAt};
-ghost use Rattle.numbers.specs.Format.{heldTo, reading, many, ended};
-ghost use Rattle.patternfile.specs.PatternFile.{fileBytes};
+ghost use Rattle.pattern.specs.Pattern.{Sized, pattern_of};
+ghost use Rattle.pattern.specs.Tests.{size_test, set_test};
+ghost use Rattle.numbers.specs.Numbers.{number_at};
+ghost use Rattle.numbers.specs.Format.{held_to, reading, many, ended};
+ghost use Rattle.patternfile.specs.PatternFile.{file_bytes};
 ghost use Rattle.patternfile.specs.Reader.{Reads};
-ghost use Rattle.patternfile.specs.Writer.{writeTest, Writes};
-ghost use Rattle.patternfile.specs.Parts.{Judges, passed, stoppedBy, Filled};
+ghost use Rattle.patternfile.specs.Writer.{write_test, Writes};
+ghost use Rattle.patternfile.specs.Parts.{Judges, passed, stopped_by, Filled};
 
 use numbers::{Number, NumberRead};
 use verdict::Verdict;
@@ -69,7 +69,7 @@ fn product(states: usize, letters: usize) -> usize
 }
 
 fn read_size(bytes: &[u8], at: usize, most: usize) -> Number
-    ensures { result ≡ heldTo (sizeTest most) at (numberAt bytes.now at) }
+    ensures { result ≡ held_to (size_test most) at (number_at bytes.now at) }
 {
     match numbers::read(bytes, at) {
         NumberRead::Done(v, took) => {
@@ -80,7 +80,7 @@ fn read_size(bytes: &[u8], at: usize, most: usize) -> Number
 }
 
 fn read_set(bytes: &[u8], at: usize, states: usize) -> Number
-    ensures { result ≡ heldTo (setTest states) at (numberAt bytes.now at) }
+    ensures { result ≡ held_to (set_test states) at (number_at bytes.now at) }
 {
     match numbers::read(bytes, at) {
         NumberRead::Done(v, took) => {
@@ -92,7 +92,7 @@ fn read_set(bytes: &[u8], at: usize, states: usize) -> Number
 
 // Judges so many sets from a place on.
 pub fn pass_sets(bytes: &[u8], at: usize, states: usize, count: usize) -> Number
-    ensures { result ≡ passed count (reading (many count (setTest states) ended) bytes.now at) }
+    ensures { result ≡ passed count (reading (many count (set_test states) ended) bytes.now at) }
 {
     let mut left = count;
     let mut place = at;
@@ -108,7 +108,7 @@ pub fn pass_sets(bytes: &[u8], at: usize, states: usize, count: usize) -> Number
 }
 
 fn stopped(number: Number) -> PatternPart
-    ensures { result ≡ stoppedBy number }
+    ensures { result ≡ stopped_by number }
 {
     match number {
         Number::Value(_, next) => PatternPart::Stopped(0, next),
@@ -211,7 +211,7 @@ pub fn read(bytes: &[u8], rows: &mut [u64]) -> PatternRead
 
 // How many bytes the pattern's numbers take.
 pub fn file_size(states: usize, letters: usize, finals: u64, rows: &[u64], x: u64, y: u64) -> usize
-    ensures { result ≡ length (fileBytes (patternOf states letters finals rows.now) x y) }
+    ensures { result ≡ length (file_bytes (pattern_of states letters finals rows.now) x y) }
 {
     let head = [wide(states), wide(letters), finals];
     let tail = [x, y];
@@ -228,7 +228,7 @@ fn write_test(
     y: u64,
     room: usize,
 ) -> Verdict
-    ensures { result ≡ writeTest (patternOf states letters finals rows.now) x y room }
+    ensures { result ≡ write_test (pattern_of states letters finals rows.now) x y room }
 {
     let pattern = pattern::pattern_test(states, letters, finals, rows);
     let Verdict::Fine = pattern else {
@@ -256,8 +256,8 @@ pub fn put_pattern(
     x: u64,
     y: u64,
 ) -> usize
-    requires { at + length (fileBytes (patternOf states letters finals rows.now) x y) ≤ length out.old }
-    ensures { Put out.old at (fileBytes (patternOf states letters finals rows.now) x y) result out.new }
+    requires { at + length (file_bytes (pattern_of states letters finals rows.now) x y) ≤ length out.old }
+    ensures { Put out.old at (file_bytes (pattern_of states letters finals rows.now) x y) result out.new }
 {
     let head = [wide(states), wide(letters), finals];
     let starts = [x, y];
@@ -276,7 +276,7 @@ pub fn write(
     y: u64,
     out: &mut [u8],
 ) -> Written
-    ensures { Writes (patternOf states letters finals rows.now) x y out.old result out.new }
+    ensures { Writes (pattern_of states letters finals rows.now) x y out.old result out.new }
 {
     let test = write_test(states, letters, finals, rows, x, y, out.len());
     if let Verdict::Against(why) = test {

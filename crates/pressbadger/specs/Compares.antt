@@ -1,8 +1,8 @@
 -- What the comparison answers and leaves in what is lent: over a list of records, and over lists of numbers.
 use Rattle.std.specs.Prelude.{List, ℕ}
 use Rattle.lent.specs.Lent.{SliceOf, Slice, before, after}
-use Rattle.walk.specs.Walk.{questionOf}
-use Rattle.comparison.specs.Answers.{callOf, lentBefore, lentAfter}
+use Rattle.walk.specs.Walk.{question_of}
+use Rattle.comparison.specs.Answers.{call_of, lent_before, lent_after}
 use Rattle.records.specs.declared.PbRecord.{PbRecord}
 use Rattle.records.specs.declared.answers.PbCompared.{PbCompared}
 use Rattle.records.specs.Answers.{ComparedLists}
@@ -10,8 +10,8 @@ use Rattle.records.specs.Records.{ComparedRecords}
 
 abbrev pub ComparesRecords : ℕ → ℕ → ℕ → List ℕ → ℕ → ℕ → ℕ → SliceOf PbRecord → Slice → PbCompared → Type 0
 ComparesRecords states letters finals rows x y room records sequence r =
-    ComparedRecords (questionOf states letters finals rows x y) room (before records) (before sequence) r (after records) (after sequence)
+    ComparedRecords (question_of states letters finals rows x y) room (before records) (before sequence) r (after records) (after sequence)
 
 abbrev pub ComparesLists : ℕ → ℕ → ℕ → List ℕ → ℕ → ℕ → ℕ → Slice → Slice → Slice → Slice → Slice → PbCompared → Type 0
 ComparesLists states letters finals rows x y room lefts rights parents taken sequence r =
-    ComparedLists (callOf states letters finals rows x y room (lentBefore lefts rights parents taken sequence)) r (lentAfter lefts rights parents taken sequence)
+    ComparedLists (call_of states letters finals rows x y room (lent_before lefts rights parents taken sequence)) r (lent_after lefts rights parents taken sequence)

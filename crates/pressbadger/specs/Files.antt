@@ -11,28 +11,28 @@ use Rattle.pressbadger.specs.declared.files.PbPattern.{PbPattern}
 use Rattle.pressbadger.specs.declared.files.PbWritten.{PbWritten}
 
 -- the scope's number and values of what reading answers
-abbrev pub patternAnswer : PatternRead → PbPattern
-patternAnswer r =
+abbrev pub pattern_answer : PatternRead → PbPattern
+pattern_answer r =
     record {
-      answer = Reader.numberOf r;
-      states = (Reader.valuesOf r).states;
-      letters = (Reader.valuesOf r).letters;
-      finals = (Reader.valuesOf r).finals;
-      x = (Reader.valuesOf r).x;
-      y = (Reader.valuesOf r).y;
-      place = (Reader.valuesOf r).place;
+      answer = Reader.number_of r;
+      states = (Reader.values_of r).states;
+      letters = (Reader.values_of r).letters;
+      finals = (Reader.values_of r).finals;
+      x = (Reader.values_of r).x;
+      y = (Reader.values_of r).y;
+      place = (Reader.values_of r).place;
     }
 
 pub record ReadPattern (bytes old : List ℕ) (r : PbPattern) (new : List ℕ) : Type 0 where
   pub read : PatternRead
   pub leaves : Reads bytes old read new
-  pub answers : r ≡ patternAnswer read
+  pub answers : r ≡ pattern_answer read
 
 -- the scope's number and byte count of what writing answers
-abbrev pub writtenAnswer : Written → PbWritten
-writtenAnswer r = record { answer = Writer.numberOf r; count = Writer.countOf r }
+abbrev pub written_answer : Written → PbWritten
+written_answer r = record { answer = Writer.number_of r; count = Writer.count_of r }
 
 pub record WrittenPattern (P : Pattern) (x y : ℕ) (old : List ℕ) (r : PbWritten) (new : List ℕ) : Type 0 where
   pub written : Written
   pub leaves : Writes P x y old written new
-  pub answers : r ≡ writtenAnswer written
+  pub answers : r ≡ written_answer written

@@ -1,5 +1,5 @@
 // The comparison: over a lent list of records, and over lists of numbers for a host that has no table of its own.
-ghost use Rattle.sets.specs.Rooms.{defaultRoom};
+ghost use Rattle.sets.specs.Rooms.{default_room};
 ghost use Rattle.pressbadger.specs.Compares.{ComparesRecords, ComparesLists};
 
 use records::PbRecord;
@@ -36,7 +36,7 @@ pub extern "C" fn pb_compare_default(
     records: &mut [PbRecord],
     sequence: &mut [u8],
 ) -> PbCompared
-    ensures { ComparesRecords states letters finals rows.now x y defaultRoom records sequence result }
+    ensures { ComparesRecords states letters finals rows.now x y default_room records sequence result }
 {
     pb_compare(
         states,

@@ -1,7 +1,7 @@
 // Pattern files for the host: read and written.
 ghost use Rattle.std.specs.Prelude.{◌≡◌};
-ghost use Rattle.pattern.specs.Pattern.{patternOf};
-ghost use Rattle.pressbadger.specs.Files.{patternAnswer, ReadPattern, writtenAnswer, WrittenPattern};
+ghost use Rattle.pattern.specs.Pattern.{pattern_of};
+ghost use Rattle.pressbadger.specs.Files.{pattern_answer, ReadPattern, written_answer, WrittenPattern};
 
 use patternfile::{PatternRead, Written};
 
@@ -36,7 +36,7 @@ pub extern "C" fn pb_read_pattern(bytes: &[u8], rows: &mut [u64]) -> PbPattern
 }
 
 fn pattern_answer(read: PatternRead) -> PbPattern
-    ensures { result ≡ patternAnswer read }
+    ensures { result ≡ pattern_answer read }
 {
     match read {
         PatternRead::Done {
@@ -77,14 +77,14 @@ pub extern "C" fn pb_write_pattern(
     y: u64,
     bytes: &mut [u8],
 ) -> PbWritten
-    ensures { WrittenPattern (patternOf states letters finals rows.now) x y bytes.old result bytes.new }
+    ensures { WrittenPattern (pattern_of states letters finals rows.now) x y bytes.old result bytes.new }
 {
     let written = patternfile::write(states, letters, finals, rows, x, y, bytes);
     written_answer(written)
 }
 
 fn written_answer(written: Written) -> PbWritten
-    ensures { result ≡ writtenAnswer written }
+    ensures { result ≡ written_answer written }
 {
     match written {
         Written::Done(count) => PbWritten {

@@ -1,6 +1,6 @@
 // Texts for the host: two of them made into one pattern.
 ghost use Rattle.std.specs.Prelude.{◌≡◌};
-ghost use Rattle.pressbadger.specs.Texts.{expressedAnswer, ExpressedTexts};
+ghost use Rattle.pressbadger.specs.Texts.{expressed_answer, ExpressedTexts};
 
 use expressions::Answer;
 

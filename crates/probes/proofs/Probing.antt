@@ -6,19 +6,19 @@ use native.Mathlib.Omega.{arith}
 use Rattle.verdict.specs.declared.Verdict.{Verdict}
 use Rattle.verdict.specs.declared.Verdict.TheVariants.{Fine, Against}
 use Rattle.verdict.specs.Tests.{Decides}
-use Rattle.verdict.proofs.Ordered.{apart, one-number}
+use Rattle.verdict.proofs.Ordered.{apart, one_number}
 use Rattle.probes.specs.Probes.{Probes, Says}
 
 module _ {test : Verdict} {Right : ℕ → Type 0} {v : ℕ} where
-  pub probe-done : test ≡ Fine → Right v → Probes test Right (record { answer = 7; value = v })
-  probe-done e r = record { done = λ p. (refl, r); refused = λ w p. apart e p }
+  pub probe_done : test ≡ Fine → Right v → Probes test Right (record { answer = 7; value = v })
+  probe_done e r = record { done = λ p. (refl, r); refused = λ w p. apart e p }
 
-pub probe-refused : {test : Verdict} {w : ℕ} (Right : ℕ → Type 0) → test ≡ Against w → Probes test Right (record { answer = w; value = 0 })
-probe-refused Right e = record { done = λ p. apart p e; refused = λ u p. (one-number e p, refl) }
+pub probe_refused : {test : Verdict} {w : ℕ} (Right : ℕ → Type 0) → test ≡ Against w → Probes test Right (record { answer = w; value = 0 })
+probe_refused Right e = record { done = λ p. apart p e; refused = λ u p. (one_number e p, refl) }
 
 -- a flag as a number
-pub says-yes : {A : Type 0} {flag : Bool} → Decides A flag → flag ≡ true → Says A 1
-says-yes d e = record { bound = omega arith; sound = λ p. d.sound e; complete = λ p. omega arith }
+pub says_yes : {A : Type 0} {flag : Bool} → Decides A flag → flag ≡ true → Says A 1
+says_yes d e = record { bound = omega arith; sound = λ p. d.sound e; complete = λ p. omega arith }
 
-pub says-no : {A : Type 0} {flag : Bool} → Decides A flag → flag ≡ false → Says A 0
-says-no d e = record { bound = omega arith; sound = λ p. absurd (omega arith); complete = λ p. d.complete e }
+pub says_no : {A : Type 0} {flag : Bool} → Decides A flag → flag ≡ false → Says A 0
+says_no d e = record { bound = omega arith; sound = λ p. absurd (omega arith); complete = λ p. d.complete e }

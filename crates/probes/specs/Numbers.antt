@@ -7,9 +7,9 @@ use Rattle.numbers.specs.declared.NumberRead.TheVariants.{Done, Refused}
 use Rattle.probes.specs.declared.Probed.{Probed}
 use Rattle.probes.specs.declared.ProbedNumber.{ProbedNumber}
 
-abbrev pub probedNumber : NumberRead → ProbedNumber
-probedNumber (Done v n) = record { answer = 7; value = v; took = n; place = 0 }
-probedNumber (Refused w place) = record { answer = w; value = 0; took = 0; place = place }
+abbrev pub probed_number : NumberRead → ProbedNumber
+probed_number (Done v n) = record { answer = 7; value = v; took = n; place = 0 }
+probed_number (Refused w place) = record { answer = w; value = 0; took = 0; place = place }
 
 -- 7 and the place after it where the number's bytes fit; else 14, and nothing is written
 pub record WritesNumber (old : List ℕ) (at v : ℕ) (r : Probed) (new : List ℕ) : Type 0 where

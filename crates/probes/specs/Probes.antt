@@ -2,11 +2,11 @@
 use Rattle.std.specs.Prelude.{◌≡◌, List, [], ◌∷◌, ℕ, ◌≤◌, length, eqb, ltb}
 use Rattle.verdict.specs.declared.Verdict.{Verdict}
 use Rattle.verdict.specs.declared.Verdict.TheVariants.{Fine, Against}
-use Rattle.verdict.specs.Tests.{need, inOrder}
-use Rattle.pattern.specs.Pattern.{Pattern, patternOf}
-use Rattle.pattern.specs.Tests.{shapeTest}
+use Rattle.verdict.specs.Tests.{need, in_order}
+use Rattle.pattern.specs.Pattern.{Pattern, pattern_of}
+use Rattle.pattern.specs.Tests.{shape_test}
 use Rattle.pattern.specs.Language.{next}
-use Rattle.pattern.specs.Judge.{letterTest}
+use Rattle.pattern.specs.Judge.{letter_test}
 use Rattle.congruence.specs.Congruence.{Congruent, Listed}
 use Rattle.congruence.specs.Closing.{Closes}
 use Rattle.probes.specs.declared.Probed.{Probed}
@@ -16,21 +16,21 @@ pub record Probes (test : Verdict) (Right : ℕ → Type 0) (r : Probed) : Type 
   pub refused : (w : ℕ) → test ≡ Against w → (r.answer ≡ w) × (r.value ≡ 0)
 
 -- a state that a mask has a bit for
-unfoldable pub stateTest : ℕ → Verdict
-stateTest s = need (ltb s 64) 12
+unfoldable pub state_test : ℕ → Verdict
+state_test s = need (ltb s 64) 12
 
 -- 10, 11, 15
-unfoldable pub nextTest : Pattern → ℕ → Verdict
-nextTest P a = inOrder (shapeTest P ∷ letterTest P.letters a ∷ [])
+unfoldable pub next_test : Pattern → ℕ → Verdict
+next_test P a = in_order (shape_test P ∷ letter_test P.letters a ∷ [])
 
 -- the set that a letter takes a set to, whatever the finals are
 abbrev pub ProbesNext : ℕ → ℕ → List ℕ → ℕ → ℕ → Probed → Type 0
 ProbesNext n k rows set letter r =
-    (finals : ℕ) → Probes (nextTest (patternOf n k finals rows) letter) (λ v. v ≡ next (patternOf n k finals rows) set letter) r
+    (finals : ℕ) → Probes (next_test (pattern_of n k finals rows) letter) (λ v. v ≡ next (pattern_of n k finals rows) set letter) r
 
 -- two sides of one length
-unfoldable pub sidesTest : List ℕ → List ℕ → Verdict
-sidesTest lefts rights = need (eqb (length lefts) (length rights)) 16
+unfoldable pub sides_test : List ℕ → List ℕ → Verdict
+sides_test lefts rights = need (eqb (length lefts) (length rights)) 16
 
 -- a yes or no as a number
 pub record Says (A : Type 0) (v : ℕ) : Type 0 where
@@ -42,8 +42,8 @@ pub record Says (A : Type 0) (v : ℕ) : Type 0 where
 
 -- the set, closed by the pairs
 abbrev pub ProbesClosing : List ℕ → List ℕ → ℕ → Probed → Type 0
-ProbesClosing lefts rights set r = Probes (sidesTest lefts rights) (λ v. Closes (Listed lefts rights) set v) r
+ProbesClosing lefts rights set r = Probes (sides_test lefts rights) (λ v. Closes (Listed lefts rights) set v) r
 
 -- whether two sets are congruent by the pairs
 abbrev pub ProbesCongruence : List ℕ → List ℕ → ℕ → ℕ → Probed → Type 0
-ProbesCongruence lefts rights a b r = Probes (sidesTest lefts rights) (λ v. Says (Congruent (Listed lefts rights) a b) v) r
+ProbesCongruence lefts rights a b r = Probes (sides_test lefts rights) (λ v. Says (Congruent (Listed lefts rights) a b) v) r

@@ -5,11 +5,11 @@ ghost use Rattle.std.specs.Prelude.{◌≡◌, ◌^◌};
 ghost use Rattle.std.specs.Int.Bits.{bit_or};
 ghost use Rattle.verdict.specs.Tests.{Decides};
 ghost use Rattle.sets.specs.Sets.{Within, meets};
-ghost use Rattle.pattern.specs.Pattern.{patternOf};
-ghost use Rattle.pattern.specs.Tests.{patternTest};
-ghost use Rattle.numbers.specs.Numbers.{readAt};
-ghost use Rattle.probes.specs.Probes.{Probes, ProbesNext, ProbesClosing, ProbesCongruence, stateTest};
-ghost use Rattle.probes.specs.Numbers.{probedNumber, WritesNumber};
+ghost use Rattle.pattern.specs.Pattern.{pattern_of};
+ghost use Rattle.pattern.specs.Tests.{pattern_test};
+ghost use Rattle.numbers.specs.Numbers.{read_at};
+ghost use Rattle.probes.specs.Probes.{Probes, ProbesNext, ProbesClosing, ProbesCongruence, state_test};
+ghost use Rattle.probes.specs.Numbers.{probed_number, WritesNumber};
 
 use numbers::NumberRead;
 use sets::States;
@@ -57,7 +57,7 @@ pub extern "C" fn probe_meets(a: u64, b: u64) -> bool
 // The set of one state.
 #[unsafe(no_mangle)]
 pub extern "C" fn probe_single(s: usize) -> Probed
-    ensures { Probes (stateTest s) (λ v. v ≡ 2 ^ s) result }
+    ensures { Probes (state_test s) (λ v. v ≡ 2 ^ s) result }
 {
     if s < 64 {
         let single = States::single(s);
@@ -76,7 +76,7 @@ pub extern "C" fn probe_single(s: usize) -> Probed
 // What is against a pattern.
 #[unsafe(no_mangle)]
 pub extern "C" fn probe_pattern(states: usize, letters: usize, finals: u64, rows: &[u64]) -> Probed
-    ensures { Probes (patternTest (patternOf states letters finals rows.now)) (λ v. v ≡ 0) result }
+    ensures { Probes (pattern_test (pattern_of states letters finals rows.now)) (λ v. v ≡ 0) result }
 {
     let test = pattern::pattern_test(states, letters, finals, rows);
     match test {
@@ -165,7 +165,7 @@ pub extern "C" fn probe_congruent(lefts: &[u64], rights: &[u64], a: u64, b: u64)
 // The number at a place of some bytes.
 #[unsafe(no_mangle)]
 pub extern "C" fn probe_read_number(bytes: &[u8], at: usize) -> ProbedNumber
-    ensures { result ≡ probedNumber (readAt bytes.now at) }
+    ensures { result ≡ probed_number (read_at bytes.now at) }
 {
     let number = numbers::read(bytes, at);
     match number {

@@ -1,6 +1,6 @@
 // The answers as a host reads them: the scope's number of each (§7), and the numbers returned with it.
 ghost use Rattle.std.specs.Prelude.{◌≡◌};
-ghost use Rattle.records.specs.Answers.{compareAnswer, inclusionAnswer, asWithin, checkAnswer};
+ghost use Rattle.records.specs.Answers.{compare_answer, inclusion_answer, as_within, check_answer};
 
 use comparison::Answer as Compared;
 use comparison::inclusion::Inclusion;
@@ -28,7 +28,7 @@ fn counted(answer: u8, kept: usize, examined: usize, length: usize) -> PbCompare
 }
 
 pub fn compare_answer(answer: Compared) -> PbCompared
-    ensures { result ≡ compareAnswer answer }
+    ensures { result ≡ compare_answer answer }
 {
     match answer {
         Compared::Same(kept, examined) => counted(0, kept, examined, 0),
@@ -39,7 +39,7 @@ pub fn compare_answer(answer: Compared) -> PbCompared
 }
 
 pub fn inclusion_answer(answer: Inclusion) -> PbCompared
-    ensures { result ≡ inclusionAnswer answer }
+    ensures { result ≡ inclusion_answer answer }
 {
     match answer {
         Inclusion::Within(kept, examined) => counted(8, kept, examined, 0),
@@ -51,7 +51,7 @@ pub fn inclusion_answer(answer: Inclusion) -> PbCompared
 
 // The answer to the one-way question, by that of the comparison of X+Y with Y: WITHIN for SAME, NOT-WITHIN for DIFFERENT.
 pub fn one_way(compared: PbCompared) -> PbCompared
-    ensures { result ≡ asWithin compared }
+    ensures { result ≡ as_within compared }
 {
     let answer = if compared.answer == 0 {
         8
@@ -72,7 +72,7 @@ pub struct PbChecked {
 }
 
 pub fn check_answer(answer: Checked) -> PbChecked
-    ensures { result ≡ checkAnswer answer }
+    ensures { result ≡ check_answer answer }
 {
     match answer {
         Checked::Proved => PbChecked {

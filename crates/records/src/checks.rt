@@ -1,9 +1,9 @@
 // The check of a list of records: its two sides gathered in tables of its own, small ones where they are enough, and checked.
 ghost use Rattle.std.specs.Prelude.{◌+◌, ◌≤◌, length};
-ghost use Rattle.sets.specs.Rooms.{maxRoom};
-ghost use Rattle.evidence.specs.Evidence.{offerOf};
+ghost use Rattle.sets.specs.Rooms.{max_room};
+ghost use Rattle.evidence.specs.Evidence.{offer_of};
 ghost use Rattle.records.specs.Answers.{CheckedOffer};
-ghost use Rattle.records.specs.Records.{columnsIn};
+ghost use Rattle.records.specs.Records.{columns_in};
 ghost use Rattle.records.specs.Inner.{Shown, Gathers};
 
 use crate::answers::PbChecked;
@@ -14,7 +14,7 @@ use sets::States;
 const MOST_SHOWN: usize = States::MAX_ROOM + 1;
 
 // How many records are looked at.
-fn shown(listed: usize) -> usize
+pub fn shown(listed: usize) -> usize
     ensures { Shown listed result }
 {
     if listed > States::MAX_ROOM {
@@ -24,7 +24,7 @@ fn shown(listed: usize) -> usize
 }
 
 // The sides of the first `n` records.
-fn gather(records: &[PbRecord], n: usize, lefts: &mut [u64], rights: &mut [u64])
+pub fn gather(records: &[PbRecord], n: usize, lefts: &mut [u64], rights: &mut [u64])
     requires lefts_fit { n ≤ length lefts.old }
     requires rights_fit { n ≤ length rights.old }
     requires list_fits { n ≤ length records.now }
@@ -48,10 +48,10 @@ fn check_in<const PLACES: usize>(
     records: &[PbRecord],
     n: usize,
 ) -> PbChecked
-    requires places_most { PLACES ≤ maxRoom + 1 }
+    requires places_most { PLACES ≤ max_room + 1 }
     requires sides_fit { n ≤ PLACES }
     requires shown { Shown (length records.now) n }
-    ensures { CheckedOffer (offerOf states letters finals rows.now x y (columnsIn records.now).lefts (columnsIn records.now).rights) result }
+    ensures { CheckedOffer (offer_of states letters finals rows.now x y (columns_in records.now).lefts (columns_in records.now).rights) result }
 {
     let mut lefts = [0u64; PLACES];
     let mut rights = [0u64; PLACES];
@@ -79,7 +79,7 @@ pub fn check(
     y: u64,
     records: &[PbRecord],
 ) -> PbChecked
-    ensures { CheckedOffer (offerOf states letters finals rows.now x y (columnsIn records.now).lefts (columnsIn records.now).rights) result }
+    ensures { CheckedOffer (offer_of states letters finals rows.now x y (columns_in records.now).lefts (columns_in records.now).rights) result }
 {
     let n = shown(records.len());
     if n <= SMALL_ROOM {

@@ -1,10 +1,10 @@
 // The comparison and the one-way question over a list of records: made in tables of their own, small ones first, and written as records.
 ghost use Rattle.std.specs.Prelude.{◌≡◌, ◌≤◌, length};
-ghost use Rattle.sets.specs.Rooms.{maxRoom};
-ghost use Rattle.walk.specs.Walk.{questionOf};
+ghost use Rattle.sets.specs.Rooms.{max_room};
+ghost use Rattle.walk.specs.Walk.{question_of};
 ghost use Rattle.walk.specs.Columns.{Fit};
 ghost use Rattle.records.specs.Records.{ComparedRecords, IncludedRecords};
-ghost use Rattle.records.specs.Inner.{asColumns, filled, Asked, Tried};
+ghost use Rattle.records.specs.Inner.{as_columns, filled, Asked, Tried};
 
 use crate::answers::PbCompared;
 use crate::{PbRecord, SMALL_ROOM};
@@ -27,7 +27,7 @@ fn asked(room: usize, places: usize, listed: usize, bytes: usize) -> usize
 }
 
 // Writes the first `n` records of the columns.
-fn fill(
+pub fn fill(
     lefts: &[u64],
     rights: &[u64],
     parents: &[u16],
@@ -35,9 +35,9 @@ fn fill(
     n: usize,
     records: &mut [PbRecord],
 )
-    requires columns_fit { Fit n (asColumns lefts.now rights.now parents.now taken.now) }
+    requires columns_fit { Fit n (as_columns lefts.now rights.now parents.now taken.now) }
     requires list_fits { n ≤ length records.old }
-    ensures { records.new ≡ filled (asColumns lefts.now rights.now parents.now taken.now) records.old n }
+    ensures { records.new ≡ filled (as_columns lefts.now rights.now parents.now taken.now) records.old n }
 {
     for i in 0..n {
         records[i] = PbRecord {
@@ -62,8 +62,8 @@ fn compare_in<const PLACES: usize>(
     records: &mut [PbRecord],
     sequence: &mut [u8],
 ) -> PbCompared
-    requires { PLACES ≤ maxRoom }
-    ensures { Tried (questionOf states letters finals rows.now x y) room PLACES records.old sequence.old result records.new sequence.new }
+    requires { PLACES ≤ max_room }
+    ensures { Tried (question_of states letters finals rows.now x y) room PLACES records.old sequence.old result records.new sequence.new }
 {
     let mut lefts = [0u64; PLACES];
     let mut rights = [0u64; PLACES];
@@ -104,7 +104,7 @@ pub fn compare(
     records: &mut [PbRecord],
     sequence: &mut [u8],
 ) -> PbCompared
-    ensures { ComparedRecords (questionOf states letters finals rows.now x y) room records.old sequence.old result records.new sequence.new }
+    ensures { ComparedRecords (question_of states letters finals rows.now x y) room records.old sequence.old result records.new sequence.new }
 {
     let mut compared = compare_in::<SMALL_ROOM>(
         states, letters, finals, rows, x, y, room, records, sequence,
@@ -129,7 +129,7 @@ pub fn within(
     records: &mut [PbRecord],
     sequence: &mut [u8],
 ) -> PbCompared
-    ensures { IncludedRecords (questionOf states letters finals rows.now x y) room records.old sequence.old result records.new sequence.new }
+    ensures { IncludedRecords (question_of states letters finals rows.now x y) room records.old sequence.old result records.new sequence.new }
 {
     let either = sets::union(x, y);
     let compared = compare(

@@ -5,64 +5,64 @@ use Prim.Native.Nat.{ℕ, ◌≤◌}
 use native.Mathlib.Omega.{arith}
 use lib.ListN.{length, take, length-map}
 use Rattle.comparison.specs.declared.Answer.{Answer}
-use Rattle.walk.specs.Walk.{Record, leftsOf, rightsOf, Outcome, keptOf, wordOf}
+use Rattle.walk.specs.Walk.{Record, lefts_of, rights_of, Outcome, kept_of, word_of}
 use Rattle.walk.specs.Walk.Outcome.{Same, Different, Full}
-use Rattle.comparison.specs.Answers.{Lent, answerOf, layOut}
-use Rattle.lent.proofs.Laying.{take-lay}
-use Rattle.text.specs.Text.{word, decimal, line, refusalText}
-use Rattle.events.specs.Events.{eventName}
-use Rattle.report.specs.Report.{recordLines, textOf, longest}
-use Rattle.report.specs.Inner.{pairLines, answerText, Printable}
+use Rattle.comparison.specs.Answers.{Lent, answer_of, lay_out}
+use Rattle.lent.proofs.Laying.{take_lay}
+use Rattle.text.specs.Text.{word, decimal, line, refusal_text}
+use Rattle.events.specs.Events.{event_name}
+use Rattle.report.specs.Report.{record_lines, text_of, longest}
+use Rattle.report.specs.Inner.{pair_lines, answer_text, Printable}
 
 -- ---- by the cases of the code
 
 module _ {answer : Answer} (lefts rights sequence : List ℕ) where
-  pub answer-same : {kept examined : ℕ} → answer ≡ Answer.Same kept examined
-      → line (word "SAME" ∷ decimal kept ∷ decimal examined ∷ []) ++ pairLines (take kept lefts) (take kept rights) ≡ answerText answer lefts rights sequence
-  unfolding answerText
-  answer-same q = rw q
+  pub answer_same : {kept examined : ℕ} → answer ≡ Answer.Same kept examined
+      → line (word "SAME" ∷ decimal kept ∷ decimal examined ∷ []) ++ pair_lines (take kept lefts) (take kept rights) ≡ answer_text answer lefts rights sequence
+  unfolding answer_text
+  answer_same q = rw q
 
-  pub answer-different : {kept examined length : ℕ} → answer ≡ Answer.Different kept examined length
-      → line (word "DIFFERENT" ∷ decimal kept ∷ decimal examined ∷ decimal length ∷ []) ++ line (map eventName (take length sequence)) ≡ answerText answer lefts rights sequence
-  unfolding answerText
-  answer-different q = rw q
+  pub answer_different : {kept examined length : ℕ} → answer ≡ Answer.Different kept examined length
+      → line (word "DIFFERENT" ∷ decimal kept ∷ decimal examined ∷ decimal length ∷ []) ++ line (map event_name (take length sequence)) ≡ answer_text answer lefts rights sequence
+  unfolding answer_text
+  answer_different q = rw q
 
-  pub answer-full : {kept examined : ℕ} → answer ≡ Answer.Full kept examined
-      → line (word "FULL" ∷ decimal kept ∷ decimal examined ∷ []) ≡ answerText answer lefts rights sequence
-  unfolding answerText
-  answer-full q = rw q
+  pub answer_full : {kept examined : ℕ} → answer ≡ Answer.Full kept examined
+      → line (word "FULL" ∷ decimal kept ∷ decimal examined ∷ []) ≡ answer_text answer lefts rights sequence
+  unfolding answer_text
+  answer_full q = rw q
 
-  pub answer-refused : {number : ℕ} → answer ≡ Answer.Refused number → refusalText number 0 ≡ answerText answer lefts rights sequence
-  unfolding answerText
-  answer-refused q = rw q
+  pub answer_refused : {number : ℕ} → answer ≡ Answer.Refused number → refusal_text number 0 ≡ answer_text answer lefts rights sequence
+  unfolding answer_text
+  answer_refused q = rw q
 
 -- ---- what an answer that can be printed names
 
 module _ {answer : Answer} {lefts rights sequence out : List ℕ} (p : Printable answer lefts rights sequence out) where
-  pub printable-same : {kept examined : ℕ} → answer ≡ Answer.Same kept examined → (kept ≤ length lefts) × (kept ≤ length rights) × (longest kept ≤ length out)
-  printable-same q = ((rw q at p).lefts-there, (rw q at p).rights-there, (rw q at p).text-fits)
+  pub printable_same : {kept examined : ℕ} → answer ≡ Answer.Same kept examined → (kept ≤ length lefts) × (kept ≤ length rights) × (longest kept ≤ length out)
+  printable_same q = ((rw q at p).lefts_there, (rw q at p).rights_there, (rw q at p).text_fits)
 
-  pub printable-different : {kept examined size : ℕ} → answer ≡ Answer.Different kept examined size → (size ≤ length sequence) × (longest size ≤ length out)
-  printable-different {kept} {size = size} q =
-      let there : size ≤ length sequence = (rw q at p).sequence-there in
+  pub printable_different : {kept examined size : ℕ} → answer ≡ Answer.Different kept examined size → (size ≤ length sequence) × (longest size ≤ length out)
+  printable_different {kept} {size = size} q =
+      let there : size ≤ length sequence = (rw q at p).sequence_there in
       let short : size ≤ kept = (rw q at p).short in
-      let fits : longest kept ≤ length out = (rw q at p).text-fits in
+      let fits : longest kept ≤ length out = (rw q at p).text_fits in
       (there, omega arith)
 
 -- ---- what was laid is what was kept
 
-pub record-lines : (kept : List Record) → pairLines (leftsOf kept) (rightsOf kept) ≡ recordLines kept
-unfolding pairLines recordLines
-record-lines [] = refl
-record-lines (r ∷ kept) = ap (λ (l : List ℕ). line (decimal r.left ∷ decimal r.right ∷ []) ++ l) (record-lines kept)
+pub record_lines_lem : (kept : List Record) → pair_lines (lefts_of kept) (rights_of kept) ≡ record_lines kept
+unfolding pair_lines record_lines
+record_lines_lem [] = refl
+record_lines_lem (r ∷ kept) = ap (λ (l : List ℕ). line (decimal r.left ∷ decimal r.right ∷ []) ++ l) (record_lines_lem kept)
 
-pub answer-text : (o : Outcome) (old : Lent) → let new = layOut (keptOf o) (wordOf o) old in answerText (answerOf o) new.columns.lefts new.columns.rights new.sequence ≡ textOf o
-unfolding answerText textOf
-answer-text (Same kept examined) old =
+pub answer_text_lem : (o : Outcome) (old : Lent) → let new = lay_out (kept_of o) (word_of o) old in answer_text (answer_of o) new.columns.lefts new.columns.rights new.sequence ≡ text_of o
+unfolding answer_text text_of
+answer_text_lem (Same kept examined) old =
     rw (
-      take-lay (leftsOf kept) old.columns.lefts (length kept) (length-map kept (λ (r : Record). r.left)),
-      take-lay (rightsOf kept) old.columns.rights (length kept) (length-map kept (λ (r : Record). r.right)),
-      record-lines kept,
+      take_lay (lefts_of kept) old.columns.lefts (length kept) (length-map kept (λ (r : Record). r.left)),
+      take_lay (rights_of kept) old.columns.rights (length kept) (length-map kept (λ (r : Record). r.right)),
+      record_lines_lem kept,
     )
-answer-text (Different kept examined sequence) old = rw (take-lay sequence old.sequence (length sequence) refl)
-answer-text (Full kept examined) old = refl
+answer_text_lem (Different kept examined sequence) old = rw (take_lay sequence old.sequence (length sequence) refl)
+answer_text_lem (Full kept examined) old = refl

@@ -4,10 +4,10 @@
 ghost use Rattle.std.specs.Prelude.{◌∷◌, [], ◌++◌, map, ◌≡◌, ◌+◌, ◌≤◌, length};
 ghost use Rattle.lent.specs.Lent.{Put};
 ghost use Rattle.text.specs.Text.{word, decimal, spaced, line};
-ghost use Rattle.events.specs.Events.{eventName};
+ghost use Rattle.events.specs.Events.{event_name};
 ghost use Rattle.asking.specs.Asking.{Lends};
 ghost use Rattle.report.specs.Report.{longest, Reported, Leaves};
-ghost use Rattle.report.specs.Inner.{pairLines, answerText, Printable};
+ghost use Rattle.report.specs.Inner.{pair_lines, answer_text, Printable};
 
 use asking::Asked;
 use comparison::Answer;
@@ -26,8 +26,8 @@ fn put_record(out: &mut [u8], at: usize, left: u64, right: u64) -> usize
 // A line for each record.
 fn put_records(out: &mut [u8], at: usize, lefts: &[u64], rights: &[u64]) -> usize
     requires lefts_len { length lefts.now ≡ length rights.now }
-    requires rights_in_bounds { at + length (pairLines lefts.now rights.now) ≤ length out.old }
-    ensures { Put out.old at (pairLines lefts.now rights.now) result out.new }
+    requires rights_in_bounds { at + length (pair_lines lefts.now rights.now) ≤ length out.old }
+    ensures { Put out.old at (pair_lines lefts.now rights.now) result out.new }
 {
     let mut place = at;
     let mut record: usize = 0;
@@ -40,8 +40,8 @@ fn put_records(out: &mut [u8], at: usize, lefts: &[u64], rights: &[u64]) -> usiz
 
 // A name with a space in front, as the later ones of a line have it.
 fn put_event(out: &mut [u8], at: usize, letter: u8) -> usize
-    requires { at + length (word " " ++ eventName letter) ≤ length out.old }
-    ensures { Put out.old at (word " " ++ eventName letter) result out.new }
+    requires { at + length (word " " ++ event_name letter) ≤ length out.old }
+    ensures { Put out.old at (word " " ++ event_name letter) result out.new }
 {
     let place = put_byte(out, at, b' ');
     put_name(out, place, letter)
@@ -49,8 +49,8 @@ fn put_event(out: &mut [u8], at: usize, letter: u8) -> usize
 
 // Names, each with a space in front.
 fn put_events(out: &mut [u8], at: usize, letters: &[u8]) -> usize
-    requires { at + length (spaced (map eventName letters.now)) ≤ length out.old }
-    ensures { Put out.old at (spaced (map eventName letters.now)) result out.new }
+    requires { at + length (spaced (map event_name letters.now)) ≤ length out.old }
+    ensures { Put out.old at (spaced (map event_name letters.now)) result out.new }
 {
     let mut place = at;
     let mut i: usize = 0;
@@ -63,8 +63,8 @@ fn put_events(out: &mut [u8], at: usize, letters: &[u8]) -> usize
 
 // One line of event names; an empty line for the empty sequence.
 fn put_sequence(out: &mut [u8], at: usize, sequence: &[u8]) -> usize
-    requires { at + length (line (map eventName sequence.now)) ≤ length out.old }
-    ensures { Put out.old at (line (map eventName sequence.now)) result out.new }
+    requires { at + length (line (map event_name sequence.now)) ≤ length out.old }
+    ensures { Put out.old at (line (map event_name sequence.now)) result out.new }
 {
     if sequence.len() == 0 {
         return put_byte(out, at, b'\n');
@@ -83,7 +83,7 @@ fn put_answer(
     sequence: &[u8],
 ) -> usize
     requires { Printable answer lefts.now rights.now sequence.now out.old }
-    ensures { Put out.old 0 (answerText answer lefts.now rights.now sequence.now) result out.new }
+    ensures { Put out.old 0 (answer_text answer lefts.now rights.now sequence.now) result out.new }
 {
     match answer {
         Answer::Same(kept, examined) => {

@@ -1,11 +1,11 @@
 -- What people read, as bytes. The laws that say what each word means stand in proofs/.
 --   word "SAME"   the bytes of a word, one for each ASCII character
---   decimal v     the 64-bit number v in decimal: its digits read back as v (`decimal-reads`, `decimal-injective`), each byte is a digit
---                 (`decimal-digits`), there are 1 to 20 of them (`decimal-some`, `decimal-short`), and none but 0 begins with a zero (`decimal-leads`)
+--   decimal v     the 64-bit number v in decimal: its digits read back as v (`decimal_reads`, `decimal_injective`), each byte is a digit
+--                 (`decimal_digits`), there are 1 to 20 of them (`decimal_some`, `decimal_short`), and none but 0 begins with a zero (`decimal_leads`)
 --   spaced ws     each word with a space in front
 --   joined ws     the words with single spaces between them
---   line ws       the words with single spaces between them, and a newline (`joined-one`, `joined-more`, `line-of-three`)
---   refusalText number place
+--   line ws       the words with single spaces between them, and a newline (`joined_one`, `joined_more`, `line_of_three`)
+--   refusal_text number place
 --                 the line of a refusal: `REFUSED`, its number and its place
 use Rattle.std.specs.Prelude.{cond, List, [], ◌∷◌, ◌++◌, ℕ, zero, suc, ◌+◌, ◌/◌, ◌%◌, ltb}
 use Prim.Native.Char.{code}
@@ -24,7 +24,7 @@ unfoldable pub digits : ℕ → ℕ → List ℕ
 digits zero v = []
 digits (suc m) v = cond (ltb v 10) (digit v ∷ []) (digits m (v / 10) ++ (digit (v % 10) ∷ []))
 
--- twenty digits hold every 64-bit number (`decimal-largest`)
+-- twenty digits hold every 64-bit number (`decimal_largest`)
 unfoldable pub decimal : ℕ → List ℕ
 decimal v = digits 20 v
 
@@ -39,5 +39,5 @@ joined (w ∷ ws) = w ++ spaced ws
 unfoldable pub line : List (List ℕ) → List ℕ
 line ws = joined ws ++ word "\n"
 
-unfoldable pub refusalText : ℕ → ℕ → List ℕ
-refusalText number place = line (word "REFUSED" ∷ decimal number ∷ decimal place ∷ [])
+unfoldable pub refusal_text : ℕ → ℕ → List ℕ
+refusal_text number place = line (word "REFUSED" ∷ decimal number ∷ decimal place ∷ [])

@@ -3,7 +3,7 @@
 
 ghost use Rattle.std.specs.Prelude.{◌∷◌, [], ◌++◌, map, ◌≡◌, ◌+◌, ◌≤◌, ◌<◌, length};
 ghost use Rattle.lent.specs.Lent.{Put};
-ghost use Rattle.text.specs.Text.{word, decimal, digit as Text·digit, spaced, line, refusalText};
+ghost use Rattle.text.specs.Text.{word, decimal, digit as Text·digit, spaced, line, refusal_text};
 
 pub fn put_byte(out: &mut [u8], at: usize, byte: u8) -> usize
     requires { at + 1 ≤ length out.old }
@@ -80,8 +80,8 @@ pub fn put_head(out: &mut [u8], at: usize, name: &[u8], numbers: &[u64]) -> usiz
 
 // The line of a refusal.
 pub fn put_refusal(out: &mut [u8], at: usize, number: u8, place: usize) -> usize
-    requires { at + length (refusalText number place) ≤ length out.old }
-    ensures { Put out.old at (refusalText number place) result out.new }
+    requires { at + length (refusal_text number place) ≤ length out.old }
+    ensures { Put out.old at (refusal_text number place) result out.new }
 {
     let numbers = [number as u64, place as u64];
     put_head(out, at, b"REFUSED", &numbers)

@@ -8,31 +8,31 @@ use lib.Dec.{eqb}
 use borrow.Author.Tests.{eqb-false, not-true}
 use Rattle.verdict.specs.declared.Verdict.{Verdict}
 use Rattle.verdict.specs.declared.Verdict.TheVariants.{Fine, Against}
-use Rattle.verdict.specs.Tests.{inOrder, Among}
+use Rattle.verdict.specs.Tests.{in_order, Among}
 use Rattle.verdict.specs.Lines.{Lines, NoneApplies, Applies, GoesBy}
 use Rattle.verdict.specs.Lines.Lines.{none, line}
-use Rattle.verdict.proofs.Ordered.{apart, order-both, order-stop, order-next}
+use Rattle.verdict.proofs.Ordered.{apart, order_both, order_stop, order_next}
 
 -- ---- the first line that applies is one
 
-pub none-or-one : (lines : Lines) (w : ℕ) → NoneApplies lines → Applies lines w → ⊥
-none-or-one none w p q = q
-none-or-one (line u A rest) w (a, p) (inl (f, e)) = f a
-none-or-one (line u A rest) w (a, p) (inr (b, q)) = none-or-one rest w p q
+pub none_or_one : (lines : Lines) (w : ℕ) → NoneApplies lines → Applies lines w → ⊥
+none_or_one none w p q = q
+none_or_one (line u A rest) w (a, p) (inl (f, e)) = f a
+none_or_one (line u A rest) w (a, p) (inr (b, q)) = none_or_one rest w p q
 
-pub one-applies : (lines : Lines) (w u : ℕ) → Applies lines w → Applies lines u → w ≡ u
-one-applies none w u p q = absurd p
-one-applies (line x A rest) w u (inl (f, e)) (inl (g, d)) = e ∙ sym d
-one-applies (line x A rest) w u (inl (f, e)) (inr (a, q)) = absurd (f a)
-one-applies (line x A rest) w u (inr (a, p)) (inl (g, d)) = absurd (g a)
-one-applies (line x A rest) w u (inr (a, p)) (inr (b, q)) = one-applies rest w u p q
+pub one_applies : (lines : Lines) (w u : ℕ) → Applies lines w → Applies lines u → w ≡ u
+one_applies none w u p q = absurd p
+one_applies (line x A rest) w u (inl (f, e)) (inl (g, d)) = e ∙ sym d
+one_applies (line x A rest) w u (inl (f, e)) (inr (a, q)) = absurd (f a)
+one_applies (line x A rest) w u (inr (a, p)) (inl (g, d)) = absurd (g a)
+one_applies (line x A rest) w u (inr (a, p)) (inr (b, q)) = one_applies rest w u p q
 
 -- so it is enough to know what follows from the verdict
-pub goes-by : (lines : Lines) (v : Verdict) → (v ≡ Fine → NoneApplies lines) → ((w : ℕ) → v ≡ Against w → Applies lines w) → GoesBy lines v
-goes-by lines Fine f g =
-    record { fine = (f, λ p. refl); against = λ w. (g w, λ p. absurd (none-or-one lines w (f refl) p)) }
-goes-by lines (Against u) f g =
-    record { fine = (f, λ p. absurd (none-or-one lines u p (g u refl))); against = λ w. (g w, λ p. ap Against (one-applies lines u w (g u refl) p)) }
+pub goes_by : (lines : Lines) (v : Verdict) → (v ≡ Fine → NoneApplies lines) → ((w : ℕ) → v ≡ Against w → Applies lines w) → GoesBy lines v
+goes_by lines Fine f g =
+    record { fine = (f, λ p. refl); against = λ w. (g w, λ p. absurd (none_or_one lines w (f refl) p)) }
+goes_by lines (Against u) f g =
+    record { fine = (f, λ p. absurd (none_or_one lines u p (g u refl))); against = λ w. (g w, λ p. ap Against (one_applies lines u w (g u refl) p)) }
 
 -- ---- one test
 
@@ -41,8 +41,8 @@ only (Memᴰ.head e) = e
 only (Memᴰ.tail m) = elim m [ ]
 
 -- a test that refuses by one number, and has nothing against it exactly where A holds
-pub one-line : {v : Verdict} {w : ℕ} {A : Type 0} → Among (w ∷ []) v → (v ≡ Fine) ↔ A → GoesBy (line w A none) v
-one-line {v} {w} {A} among fine = goes-by _ v (λ e. (fine.0 e, tt)) (λ u e. inl (λ a. apart (fine.1 a) e, only (among.among u e)))
+pub one_line : {v : Verdict} {w : ℕ} {A : Type 0} → Among (w ∷ []) v → (v ≡ Fine) ↔ A → GoesBy (line w A none) v
+one_line {v} {w} {A} among fine = goes_by _ v (λ e. (fine.0 e, tt)) (λ u e. inl (λ a. apart (fine.1 a) e, only (among.among u e)))
 
 -- ---- tests in order
 
@@ -50,40 +50,40 @@ abbrev pub joined : Lines → Lines → Lines
 joined none more = more
 joined (line w A rest) more = line w A (joined rest more)
 
-none-joined : (lines more : Lines) → NoneApplies lines → NoneApplies more → NoneApplies (joined lines more)
-none-joined none more p q = q
-none-joined (line w A rest) more (a, p) q = (a, none-joined rest more p q)
+none_joined : (lines more : Lines) → NoneApplies lines → NoneApplies more → NoneApplies (joined lines more)
+none_joined none more p q = q
+none_joined (line w A rest) more (a, p) q = (a, none_joined rest more p q)
 
-front-applies : (lines more : Lines) (w : ℕ) → Applies lines w → Applies (joined lines more) w
-front-applies none more w p = absurd p
-front-applies (line u A rest) more w (inl p) = inl p
-front-applies (line u A rest) more w (inr (a, p)) = inr (a, front-applies rest more w p)
+front_applies : (lines more : Lines) (w : ℕ) → Applies lines w → Applies (joined lines more) w
+front_applies none more w p = absurd p
+front_applies (line u A rest) more w (inl p) = inl p
+front_applies (line u A rest) more w (inr (a, p)) = inr (a, front_applies rest more w p)
 
-later-applies : (lines more : Lines) (w : ℕ) → NoneApplies lines → Applies more w → Applies (joined lines more) w
-later-applies none more w p q = q
-later-applies (line u A rest) more w (a, p) q = inr (a, later-applies rest more w p q)
+later_applies : (lines more : Lines) (w : ℕ) → NoneApplies lines → Applies more w → Applies (joined lines more) w
+later_applies none more w p q = q
+later_applies (line u A rest) more w (a, p) q = inr (a, later_applies rest more w p q)
 
 -- no test, no line
-pub no-lines : GoesBy none (inOrder [])
-unfolding inOrder
-no-lines = goes-by none Fine (λ e. tt) (λ w e. apart refl e)
+pub no_lines : GoesBy none (in_order [])
+unfolding in_order
+no_lines = goes_by none Fine (λ e. tt) (λ w e. apart refl e)
 
 -- a test in front of others: its lines in front of theirs
-pub lines-then : {lines more : Lines} {v : Verdict} (tests : List Verdict) → GoesBy lines v → GoesBy more (inOrder tests)
-    → GoesBy (joined lines more) (inOrder (v ∷ tests))
-lines-then {lines} {more} {v} tests g h =
-    goes-by _ _ (λ e. let (p, q) = (order-both v tests).0 e in none-joined lines more (g.fine.0 p) (h.fine.0 q)) (λ w e. against v g w e)
+pub lines_then : {lines more : Lines} {v : Verdict} (tests : List Verdict) → GoesBy lines v → GoesBy more (in_order tests)
+    → GoesBy (joined lines more) (in_order (v ∷ tests))
+lines_then {lines} {more} {v} tests g h =
+    goes_by _ _ (λ e. let (p, q) = (order_both v tests).0 e in none_joined lines more (g.fine.0 p) (h.fine.0 q)) (λ w e. against v g w e)
   where
-    against : (v : Verdict) → GoesBy lines v → (w : ℕ) → inOrder (v ∷ tests) ≡ Against w → Applies (joined lines more) w
-    against Fine g w e = later-applies lines more w (g.fine.0 refl) ((h.against w).0 (sym (order-next Fine tests refl) ∙ e))
-    against (Against u) g w e = front-applies lines more w ((g.against w).0 (sym (order-stop (Against u) tests refl) ∙ e))
+    against : (v : Verdict) → GoesBy lines v → (w : ℕ) → in_order (v ∷ tests) ≡ Against w → Applies (joined lines more) w
+    against Fine g w e = later_applies lines more w (g.fine.0 refl) ((h.against w).0 (sym (order_next Fine tests refl) ∙ e))
+    against (Against u) g w e = front_applies lines more w ((g.against w).0 (sym (order_stop (Against u) tests refl) ∙ e))
 
 -- ---- lines of one number
 
 -- two lines of one number after one another are one line of it
-pub same-number : {v : Verdict} {A B C : Type 0} (front : Lines) (w : ℕ) (rest : Lines) → (A × B) ↔ C
+pub same_number : {v : Verdict} {A B C : Type 0} (front : Lines) (w : ℕ) (rest : Lines) → (A × B) ↔ C
     → GoesBy (joined front (line w A (line w B rest))) v → GoesBy (joined front (line w C rest)) v
-same-number {v} {A} {B} {C} front w rest c g = goes-by _ _ (λ e. holds front (g.fine.0 e)) (λ u e. applies front u ((g.against u).0 e))
+same_number {v} {A} {B} {C} front w rest c g = goes_by _ _ (λ e. holds front (g.fine.0 e)) (λ u e. applies front u ((g.against u).0 e))
   where
     holds : (front : Lines) → NoneApplies (joined front (line w A (line w B rest))) → NoneApplies (joined front (line w C rest))
     holds none (a, (b, p)) = (c.0 (a, b), p)
@@ -98,42 +98,42 @@ same-number {v} {A} {B} {C} front w rest c g = goes-by _ _ (λ e. holds front (g
 
 -- ---- the numbers of the lines
 
-abbrev pub numbersOf : Lines → List ℕ
-numbersOf none = []
-numbersOf (line w A rest) = w ∷ numbersOf rest
+abbrev pub numbers_of : Lines → List ℕ
+numbers_of none = []
+numbers_of (line w A rest) = w ∷ numbers_of rest
 
-applies-among : (lines : Lines) (w : ℕ) → Applies lines w → Memᴰ w (numbersOf lines)
-applies-among none w p = absurd p
-applies-among (line u A rest) w (inl (f, e)) = Memᴰ.head e
-applies-among (line u A rest) w (inr (a, p)) = Memᴰ.tail (applies-among rest w p)
+applies_among : (lines : Lines) (w : ℕ) → Applies lines w → Memᴰ w (numbers_of lines)
+applies_among none w p = absurd p
+applies_among (line u A rest) w (inl (f, e)) = Memᴰ.head e
+applies_among (line u A rest) w (inr (a, p)) = Memᴰ.tail (applies_among rest w p)
 
 -- what goes by the lines refuses only by their numbers
-pub lines-among : {lines : Lines} {v : Verdict} → GoesBy lines v → Among (numbersOf lines) v
-lines-among {lines} g = record { among = λ w e. applies-among lines w ((g.against w).0 e) }
+pub lines_among : {lines : Lines} {v : Verdict} → GoesBy lines v → Among (numbers_of lines) v
+lines_among {lines} g = record { among = λ w e. applies_among lines w ((g.against w).0 e) }
 
 -- the number is none of these
 abbrev pub lacks : ℕ → List ℕ → Bool
 lacks w [] = true
 lacks w (x ∷ xs) = not (eqb w x) && lacks w xs
 
-not-first : (w x : ℕ) (xs : List ℕ) → lacks w (x ∷ xs) ≡ true → w ≡ x → ⊥
-not-first w x xs e = eqb-false w x (not-true _ ((and-eq-true_iff (not (eqb w x)) (lacks w xs)).0 e).0)
+not_first : (w x : ℕ) (xs : List ℕ) → lacks w (x ∷ xs) ≡ true → w ≡ x → ⊥
+not_first w x xs e = eqb-false w x (not-true _ ((and-eq-true_iff (not (eqb w x)) (lacks w xs)).0 e).0)
 
-not-later : (w x : ℕ) (xs : List ℕ) → lacks w (x ∷ xs) ≡ true → lacks w xs ≡ true
-not-later w x xs e = ((and-eq-true_iff (not (eqb w x)) (lacks w xs)).0 e).1
+not_later : (w x : ℕ) (xs : List ℕ) → lacks w (x ∷ xs) ≡ true → lacks w xs ≡ true
+not_later w x xs e = ((and-eq-true_iff (not (eqb w x)) (lacks w xs)).0 e).1
 
 lacking : (w : ℕ) (xs : List ℕ) → lacks w xs ≡ true → Memᴰ w xs → ⊥
 lacking w [] e m = elim m [ ]
-lacking w (x ∷ xs) e (Memᴰ.head d) = not-first w x xs e d
-lacking w (x ∷ xs) e (Memᴰ.tail m) = lacking w xs (not-later w x xs e) m
+lacking w (x ∷ xs) e (Memᴰ.head d) = not_first w x xs e d
+lacking w (x ∷ xs) e (Memᴰ.tail m) = lacking w xs (not_later w x xs e) m
 
 -- a line that alone has its number is the first that applies exactly where no line before it applies and it does
-pub applies-exactly : {A : Type 0} (front : Lines) (w : ℕ) (rest : Lines) → lacks w (numbersOf front) ≡ true → lacks w (numbersOf rest) ≡ true
+pub applies_exactly : {A : Type 0} (front : Lines) (w : ℕ) (rest : Lines) → lacks w (numbers_of front) ≡ true → lacks w (numbers_of rest) ≡ true
     → Applies (joined front (line w A rest)) w ↔ (NoneApplies front × (A → ⊥))
-applies-exactly {A} front w rest before after = (to front before, λ p. later-applies front (line w A rest) w p.0 (inl (p.1, refl)))
+applies_exactly {A} front w rest before after = (to front before, λ p. later_applies front (line w A rest) w p.0 (inl (p.1, refl)))
   where
-    to : (front : Lines) → lacks w (numbersOf front) ≡ true → Applies (joined front (line w A rest)) w → NoneApplies front × (A → ⊥)
+    to : (front : Lines) → lacks w (numbers_of front) ≡ true → Applies (joined front (line w A rest)) w → NoneApplies front × (A → ⊥)
     to none e (inl (f, d)) = (tt, f)
-    to none e (inr (a, p)) = absurd (lacking w (numbersOf rest) after (applies-among rest w p))
-    to (line u B more) e (inl (f, d)) = absurd (not-first w u (numbersOf more) e d)
-    to (line u B more) e (inr (b, p)) = let (q, f) = to more (not-later w u (numbersOf more) e) p in ((b, q), f)
+    to none e (inr (a, p)) = absurd (lacking w (numbers_of rest) after (applies_among rest w p))
+    to (line u B more) e (inl (f, d)) = absurd (not_first w u (numbers_of more) e d)
+    to (line u B more) e (inr (b, p)) = let (q, f) = to more (not_later w u (numbers_of more) e) p in ((b, q), f)

@@ -1,7 +1,7 @@
 -- The lines of the table of refusals that a call has, in the order in which they are looked at.
 --   line w A rest       the line of number w applies where A does not hold; the lines of `rest` are looked at after it
 --   NoneApplies lines   no line applies
---   Applies lines w     w is the number of the first line that applies (`one-applies`, `applies-exactly`)
+--   Applies lines w     w is the number of the first line that applies (`one_applies`, `applies_exactly`)
 --   GoesBy lines v      the verdict refuses exactly where a line applies, and by the number of the first
 use Rattle.std.specs.Prelude.{◌≡◌, ◌↔◌, ◌⊎◌, ℕ}
 use Rattle.verdict.specs.declared.Verdict.{Verdict}

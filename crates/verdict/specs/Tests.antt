@@ -10,14 +10,14 @@ need true w = Fine
 need false w = Against w
 
 -- several tests in their order: the first that fails decides
-unfoldable pub inOrder : List Verdict → Verdict
-inOrder [] = Fine
-inOrder (Fine ∷ tests) = inOrder tests
-inOrder (Against w ∷ tests) = Against w
+unfoldable pub in_order : List Verdict → Verdict
+in_order [] = Fine
+in_order (Fine ∷ tests) = in_order tests
+in_order (Against w ∷ tests) = Against w
 
 -- one test of each value, in the order of the list
 unfoldable pub each : (ℕ → Verdict) → List ℕ → Verdict
-each test values = inOrder (map test values)
+each test values = in_order (map test values)
 
 -- the verdict refuses only by these numbers
 pub record Among (numbers : List ℕ) (v : Verdict) : Type 0 where

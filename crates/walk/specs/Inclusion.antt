@@ -1,5 +1,5 @@
 -- The one-way question of a question: whether every event sequence that is accepted from X is accepted from Y.
---   joined    X+Y and Y in the place of X and Y: the question whose walk decides it (`within-means-within`, `not-within-escapes`)
+--   joined    X+Y and Y in the place of X and Y: the question whose walk decides it (`within_means_within`, `not_within_escapes`)
 use Rattle.std.specs.Int.Bits.{bit_or}
 use Rattle.walk.specs.Walk.{Question}
 

@@ -2,20 +2,20 @@
 use Rattle.std.specs.Prelude.{List, [], ◌∷◌, ℕ}
 use Rattle.congruence.specs.Congruence.{Listed}
 use Rattle.congruence.specs.Closing.{Closes}
-use Rattle.walk.specs.Walk.{Question, questionOf, Record, leftsOf, rightsOf, Outcome, Walk}
+use Rattle.walk.specs.Walk.{Question, question_of, Record, lefts_of, rights_of, Outcome, Walk}
 use Rattle.walk.specs.Walk.Outcome.{Same, Different, Full}
 
 abbrev pub A : ℕ → ℕ → Question
-A x y = questionOf 3 1 5 (2 ∷ 1 ∷ 4 ∷ []) x y
+A x y = question_of 3 1 5 (2 ∷ 1 ∷ 4 ∷ []) x y
 
 abbrev pub B : ℕ → ℕ → Question
-B x y = questionOf 6 1 18 (2 ∷ 4 ∷ 3 ∷ 48 ∷ 32 ∷ 8 ∷ []) x y
+B x y = question_of 6 1 18 (2 ∷ 4 ∷ 3 ∷ 48 ∷ 32 ∷ 8 ∷ []) x y
 
 abbrev pub C : ℕ → ℕ → Question
-C x y = questionOf 4 1 9 (3 ∷ 4 ∷ 0 ∷ 8 ∷ []) x y
+C x y = question_of 4 1 9 (3 ∷ 4 ∷ 0 ∷ 8 ∷ []) x y
 
 abbrev pub D : ℕ → ℕ → Question
-D x y = questionOf 2 2 2 (0 ∷ 2 ∷ 0 ∷ 0 ∷ []) x y
+D x y = question_of 2 2 2 (0 ∷ 2 ∷ 0 ∷ 0 ∷ []) x y
 
 -- a question in a room, and the outcome of its walk; or a list of pairs, a set, and what it closes to
 pub data Row : Type 0 where
@@ -43,7 +43,7 @@ table =
 
 abbrev pub Holds : Row → Type 0
 Holds (asks Q room o) = Walk Q room o
-Holds (closes pairs set closed) = Closes (Listed (leftsOf pairs) (rightsOf pairs)) set closed
+Holds (closes pairs set closed) = Closes (Listed (lefts_of pairs) (rights_of pairs)) set closed
 
 -- each row holds
 pub data Known : List Row → Type 0 where

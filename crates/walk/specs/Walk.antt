@@ -1,15 +1,15 @@
 -- The walk of the scope (§5), as a relation. It cites congruence and the language, and runs neither the closing nor any code.
 --   Question     two sets of states, X and Y, of one pattern
---   Record       a kept record; leftsOf, rightsOf, parentsOf and lettersOf are the columns of a list of records
+--   Record       a kept record; lefts_of, rights_of, parents_of and letters_of are the columns of a list of records
 --   candidate    the candidate of a number, by the records kept
 --   Position     what the walk has done: the records kept, and how many candidates it has examined
 --   Moves        a candidate is dealt with and the walk goes on: rules 1 and 4, from any position
 --   Path, Word   the letters from the start to a record, and to a candidate
---   Outcome      what the walk comes to; keptOf, wordOf and examinedOf are its parts
+--   Outcome      what the walk comes to; kept_of, word_of and examined_of are its parts
 --   Ends         the walk stops: rules 2 and 3, or no candidate is left
---   Walk         moves from the beginning, and an end: every valid question has one outcome (`Walk-Ends`, `walk-unique`)
+--   Walk         moves from the beginning, and an end: every valid question has one outcome (`Walk-Ends`, `walk_unique`)
 use Rattle.std.specs.Prelude.{◌≡◌, List, [], ◌∷◌, ◌++◌, map, ℕ, zero, suc, ◌+◌, ◌*◌, ◌/◌, ◌%◌, ◌≤◌, ◌<◌, length, get_or}
-use Rattle.pattern.specs.Pattern.{Pattern, patternOf}
+use Rattle.pattern.specs.Pattern.{Pattern, pattern_of}
 use Rattle.pattern.specs.Language.{next, accepts}
 use Rattle.congruence.specs.Congruence.{Congruent, Listed}
 
@@ -18,8 +18,8 @@ pub record Question : Type 0 where
   pub left : ℕ
   pub right : ℕ
 
-abbrev pub questionOf : ℕ → ℕ → ℕ → List ℕ → ℕ → ℕ → Question
-questionOf n k finals rows x y = record { pattern = patternOf n k finals rows; left = x; right = y }
+abbrev pub question_of : ℕ → ℕ → ℕ → List ℕ → ℕ → ℕ → Question
+question_of n k finals rows x y = record { pattern = pattern_of n k finals rows; left = x; right = y }
 
 -- two sets, the number of the record they came from, and the letter taken; record 0 has parent 0 and letter 0
 pub record Record : Type 0 where
@@ -28,17 +28,17 @@ pub record Record : Type 0 where
   pub parent : ℕ
   pub letter : ℕ
 
-abbrev pub leftsOf : List Record → List ℕ
-leftsOf kept = map (λ (r : Record). r.left) kept
+abbrev pub lefts_of : List Record → List ℕ
+lefts_of kept = map (λ (r : Record). r.left) kept
 
-abbrev pub rightsOf : List Record → List ℕ
-rightsOf kept = map (λ (r : Record). r.right) kept
+abbrev pub rights_of : List Record → List ℕ
+rights_of kept = map (λ (r : Record). r.right) kept
 
-abbrev pub parentsOf : List Record → List ℕ
-parentsOf kept = map (λ (r : Record). r.parent) kept
+abbrev pub parents_of : List Record → List ℕ
+parents_of kept = map (λ (r : Record). r.parent) kept
 
-abbrev pub lettersOf : List Record → List ℕ
-lettersOf kept = map (λ (r : Record). r.letter) kept
+abbrev pub letters_of : List Record → List ℕ
+letters_of kept = map (λ (r : Record). r.letter) kept
 
 -- candidate 0 is the starting pair; candidate 1 + e is the pair of successors of record e / k by letter e % k
 unfoldable pub candidate : Question → List Record → ℕ → Record
@@ -46,8 +46,8 @@ candidate Q kept zero = record { left = Q.left; right = Q.right; parent = 0; let
 candidate Q kept (suc e) =
     let k = Q.pattern.letters in
     record {
-      left = next Q.pattern (get_or (leftsOf kept) (e / k) 0) (e % k);
-      right = next Q.pattern (get_or (rightsOf kept) (e / k) 0) (e % k);
+      left = next Q.pattern (get_or (lefts_of kept) (e / k) 0) (e % k);
+      right = next Q.pattern (get_or (rights_of kept) (e / k) 0) (e % k);
       parent = e / k;
       letter = e % k;
     }
@@ -72,7 +72,7 @@ Remains Q p = p.examined < candidates Q p.kept
 
 -- congruent by the records kept so far
 abbrev pub Implied : List Record → Record → Type 0
-Implied kept r = Congruent (Listed (leftsOf kept) (rightsOf kept)) r.left r.right
+Implied kept r = Congruent (Listed (lefts_of kept) (rights_of kept)) r.left r.right
 
 -- both sides accept the empty sequence, or neither does; where not, exactly one side accepts it
 abbrev pub Agrees : Question → Record → Type 0
@@ -100,7 +100,7 @@ pub data Path (parents letters : List ℕ) : ℕ → List ℕ → Type 0 where
 -- the letters from the start to candidate number e
 pub data Word (Q : Question) (kept : List Record) : ℕ → List ℕ → Type 0 where
   first : Word Q kept 0 []
-  later : {e : ℕ} {w : List ℕ} → Path (parentsOf kept) (lettersOf kept) (e / Q.pattern.letters) w → Word Q kept (suc e) (w ++ (e % Q.pattern.letters ∷ []))
+  later : {e : ℕ} {w : List ℕ} → Path (parents_of kept) (letters_of kept) (e / Q.pattern.letters) w → Word Q kept (suc e) (w ++ (e % Q.pattern.letters ∷ []))
 
 -- the records kept, the number examined, and for DIFFERENT the sequence
 pub data Outcome : Type 0 where
@@ -109,20 +109,20 @@ pub data Outcome : Type 0 where
   Full : List Record → ℕ → Outcome
 
 -- the parts of an outcome; there is no sequence but for DIFFERENT
-abbrev pub keptOf : Outcome → List Record
-keptOf (Same records examined) = records
-keptOf (Different records examined word) = records
-keptOf (Full records examined) = records
+abbrev pub kept_of : Outcome → List Record
+kept_of (Same records examined) = records
+kept_of (Different records examined word) = records
+kept_of (Full records examined) = records
 
-abbrev pub wordOf : Outcome → List ℕ
-wordOf (Same records examined) = []
-wordOf (Different records examined word) = word
-wordOf (Full records examined) = []
+abbrev pub word_of : Outcome → List ℕ
+word_of (Same records examined) = []
+word_of (Different records examined word) = word
+word_of (Full records examined) = []
 
-abbrev pub examinedOf : Outcome → ℕ
-examinedOf (Same records examined) = examined
-examinedOf (Different records examined word) = examined
-examinedOf (Full records examined) = examined
+abbrev pub examined_of : Outcome → ℕ
+examined_of (Same records examined) = examined
+examined_of (Different records examined word) = examined
+examined_of (Full records examined) = examined
 
 -- no candidate is left: SAME
 -- 2. not congruent, and exactly one side accepts the empty sequence: stop, DIFFERENT

@@ -40,7 +40,7 @@ impl Repository {
         let repository = Repository { root };
         repository.has(
             "crates.txt",
-            "# all: of them\nwalk:\nreport: walk\npressbadger: walk # above\n",
+            "# all: of them\nwalk:\nreport: walk\npressbadger staticlib: walk # above\n",
         );
         repository.has("crates/walk/src/lib.rt", "");
         repository.has("crates/walk/proofs/run/Answers.antt", "");
@@ -142,7 +142,7 @@ fn a_library_older_than_what_it_is_made_of_is_not_linked() {
     repository.stops(None, "crates/walk/proofs/run: run `bin/build pressbadger`");
     repository.has_library(built, 2);
     repository.answers(None);
-    repository.has("crates.txt", "walk:\npressbadger: walk\n");
+    repository.has("crates.txt", "walk:\npressbadger staticlib: walk\n");
     repository.stops(None, "crates.txt: run `bin/build pressbadger`");
 }
 

@@ -16,6 +16,8 @@ pub enum Damage {
     Cut,
     /// A number gets needless groups, within ten bytes.
     Padded,
+    /// A number gets so many needless groups that it has more than ten bytes.
+    Longer,
     /// A number is replaced by one of ten bytes.
     TenBytes,
     /// Bytes are put after the last number.
@@ -25,10 +27,11 @@ pub enum Damage {
 }
 
 /// Every kind of damage.
-pub const DAMAGES: [Damage; 6] = [
+pub const DAMAGES: [Damage; 7] = [
     Damage::ByteChange,
     Damage::Cut,
     Damage::Padded,
+    Damage::Longer,
     Damage::TenBytes,
     Damage::Tail,
     Damage::OneOff,
@@ -77,6 +80,7 @@ fn done(
         Damage::ByteChange => byte_change(random, file(numbers)),
         Damage::Cut => cut(random, file(numbers)),
         Damage::Padded => with_number(numbers, at, &padded(random, numbers[at])),
+        Damage::Longer => with_number(numbers, at, &longer(random, numbers[at])),
         Damage::TenBytes => with_number(numbers, at, &ten_bytes(random)),
         Damage::Tail => tail(random, file(numbers)),
         Damage::OneOff => {
@@ -122,6 +126,17 @@ fn padded(random: &mut Random, value: u64) -> Vec<u8> {
     let mut bytes = encode(value);
     bytes.extend(vec![FOLLOWS; random.below(3) as usize]);
     bytes.truncate(MAX_BYTES - 1);
+    ended(bytes)
+}
+
+fn longer(random: &mut Random, value: u64) -> Vec<u8> {
+    let mut bytes = encode(value);
+    bytes.resize(MAX_BYTES + random.below(3) as usize, FOLLOWS);
+    ended(bytes)
+}
+
+/// Every byte says that another follows, and a group of 0 does.
+fn ended(mut bytes: Vec<u8>) -> Vec<u8> {
     for byte in &mut bytes {
         *byte |= FOLLOWS;
     }

@@ -1,7 +1,7 @@
 -- `congruence::close` closes the set: growth toward every state ends in a closed one.
 use mathlib.Core.Logic.{⊎_elim}
 use Rattle.std.proofs.Common.{arith}
-use Rattle.congruence.proofs.Passes.{every-state-closed}
+use Rattle.congruence.proofs.Passes.{every_state_closed}
 use Rattle.congruence.proofs.close.Goals as goal
 
 pub returns : goal.returns
@@ -9,7 +9,7 @@ returns c = record {
   grown = c.grow.ensures.grown;
   still =
       ⊎_elim
-      (λ w. every-state-closed {n = 64} (λ j. omega (arith, c.type_inv.lefts j)) (λ j. omega (arith, c.type_inv.rights j)) w)
+      (λ w. every_state_closed {n = 64} (λ j. omega (arith, c.type_inv.lefts j)) (λ j. omega (arith, c.type_inv.rights j)) w)
       (λ s. s)
       c.grow.ensures.ended;
 }

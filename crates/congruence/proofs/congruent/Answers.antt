@@ -1,6 +1,6 @@
 -- `congruence::congruent` decides congruence: each set grows toward the other.
 use Rattle.std.proofs.Common.{true≢false, sym}
-use Rattle.congruence.proofs.Deciding.{growing-decides, reaches}
+use Rattle.congruence.proofs.Deciding.{growing_decides, reaches}
 use Rattle.congruence.proofs.congruent.Goals as goal
 
 pub returns-then-not-within : goal.returns-then-not-within
@@ -11,7 +11,7 @@ returns-then-not-within c = record {
 
 pub returns : goal.returns
 returns c =
-    let both = growing-decides c.grow.ensures c.grow-2.ensures in
+    let both = growing_decides c.grow.ensures c.grow-2.ensures in
     record {
       sound = λ e. both.1 (c.within.ensures.sound c.if-not-within.false, c.within-2.ensures.sound e);
       complete = λ e h. c.within-2.ensures.complete e (both.0 h).1;

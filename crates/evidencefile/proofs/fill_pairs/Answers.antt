@@ -2,15 +2,15 @@
 use mathlib.Core.Path.{sym, ◌∙◌}
 use native.Mathlib.Omega.{arith}
 use Rattle.numbers.specs.Numbers.{AreBytes}
-use Rattle.numbers.proofs.Taking.{done-on, refused-on, took}
-use Rattle.evidencefile.proofs.Filling.{filling-first, filling-no-left, filling-no-right, filling-step, filling-done}
+use Rattle.numbers.proofs.Taking.{done_on, refused_on, took}
+use Rattle.evidencefile.proofs.Filling.{filling_first, filling_no_left, filling_no_right, filling_step, filling_done}
 use Rattle.evidencefile.proofs.fill_pairs.Goals as goal
 
 pub loop-i-init : goal.loop-i-init
-loop-i-init c = filling-first c.args.bytes.now c.args.at c.args.count c.args.lefts.now c.args.rights.now c.requires.lefts_fit c.requires.rights_fit
+loop-i-init c = filling_first c.args.bytes.now c.args.at c.args.count c.args.lefts.now c.args.rights.now c.requires.lefts_fit c.requires.rights_fit
 
 pub returns-in_default : goal.returns-in_default
-returns-in_default c = filling-no-left c.loop-i.invariant c.loop-i-test.true (refused-on c.args.bytes.now c.loop-i.place c.read-left.ensures c.in_default.is)
+returns-in_default c = filling_no_left c.loop-i.invariant c.loop-i-test.true (refused_on c.args.bytes.now c.loop-i.place c.read-left.ensures c.in_default.is)
 
 pub overflow_add-at_right : goal.overflow_add-at_right
 overflow_add-at_right c =
@@ -20,8 +20,8 @@ overflow_add-at_right c =
 
 pub returns-in_default-right : goal.returns-in_default-right
 returns-in_default-right c =
-    filling-no-right c.loop-i.invariant c.loop-i-test.true (done-on c.args.bytes.now c.loop-i.place c.read-left.ensures c.in-Done.is)
-    (refused-on c.args.bytes.now _ c.read-right.ensures c.in_default-right.is)
+    filling_no_right c.loop-i.invariant c.loop-i-test.true (done_on c.args.bytes.now c.loop-i.place c.read-left.ensures c.in-Done.is)
+    (refused_on c.args.bytes.now _ c.read-right.ensures c.in_default-right.is)
 
 pub overflow_add-place : goal.overflow_add-place
 overflow_add-place c =
@@ -31,8 +31,8 @@ overflow_add-place c =
 
 pub loop-i-preserved : goal.loop-i-preserved
 loop-i-preserved c =
-    filling-step c.loop-i.invariant c.loop-i-test.true (done-on c.args.bytes.now c.loop-i.place c.read-left.ensures c.in-Done.is)
-    (done-on c.args.bytes.now _ c.read-right.ensures c.in-Done-right.is) (omega arith) (omega arith)
+    filling_step c.loop-i.invariant c.loop-i-test.true (done_on c.args.bytes.now c.loop-i.place c.read-left.ensures c.in-Done.is)
+    (done_on c.args.bytes.now _ c.read-right.ensures c.in-Done-right.is) (omega arith) (omega arith)
 
 pub returns : goal.returns
-returns c = filling-done c.loop-i.invariant c.loop-i-test.false
+returns c = filling_done c.loop-i.invariant c.loop-i-test.false

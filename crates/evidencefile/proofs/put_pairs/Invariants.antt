@@ -2,14 +2,14 @@
 use Prim.Native.Nat.{◌-◌, ◌≤◌}
 use lib.ListN.{length, drop}
 use Rattle.lent.proofs.Putting.{Left}
-use Rattle.numbers.specs.Format.{encodeAll}
+use Rattle.numbers.specs.Format.{encode_all}
 use Rattle.evidencefile.specs.EvidenceFile.{alternating}
 use Rattle.evidencefile.proofs.put_pairs.Given as goal
 
 abbrev pub invariant-loop-i : goal.invariant-loop-i
 invariant-loop-i l = record {
   within : l.i ≤ length l.lefts;
-  left : Left l.fn.out l.at (encodeAll (alternating l.lefts l.rights)) l.out l.place (encodeAll (alternating (drop l.i l.lefts) (drop l.i l.rights)));
+  left : Left l.fn.out l.at (encode_all (alternating l.lefts l.rights)) l.out l.place (encode_all (alternating (drop l.i l.lefts) (drop l.i l.rights)));
 }
 
 abbrev pub decreases-loop-i : goal.decreases-loop-i

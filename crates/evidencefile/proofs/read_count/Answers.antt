@@ -4,8 +4,8 @@ use mathlib.Core.Path.{sym, ap, ◌∙◌}
 use native.Mathlib.Omega.{arith}
 use Rattle.verdict.specs.declared.Verdict.{Verdict}
 use Rattle.numbers.specs.Format.{ruled}
-use Rattle.numbers.proofs.Taking.{done-held, refused-held, took}
-use Rattle.evidencefile.specs.EvidenceFile.{countTest}
+use Rattle.numbers.proofs.Taking.{done_held, refused_held, took}
+use Rattle.evidencefile.specs.EvidenceFile.{count_test}
 use Rattle.evidencefile.proofs.read_count.Goals as goal
 
 pub overflow_add-at : goal.overflow_add-at
@@ -16,8 +16,8 @@ overflow_add-at c =
 pub returns-in-Done : goal.returns-in-Done
 returns-in-Done c =
     c.ruled.ensures
-    ∙ ap (λ (u : Verdict). ruled u c.args.at c.in-Done.v (c.args.at + c.in-Done.took)) (c.count_test.ensures ∙ ap countTest c.index.ensures)
-    ∙ done-held countTest c.args.bytes.now c.args.at c.read.ensures c.in-Done.is
+    ∙ ap (λ (u : Verdict). ruled u c.args.at c.in-Done.v (c.args.at + c.in-Done.took)) (c.count_test.ensures ∙ ap count_test c.index.ensures)
+    ∙ done_held count_test c.args.bytes.now c.args.at c.read.ensures c.in-Done.is
 
 pub returns-in-Refused : goal.returns-in-Refused
-returns-in-Refused c = refused-held countTest c.args.bytes.now c.args.at c.read.ensures c.in-Refused.is
+returns-in-Refused c = refused_held count_test c.args.bytes.now c.args.at c.read.ensures c.in-Refused.is

@@ -2,24 +2,24 @@
 use mathlib.Core.Path.{refl}
 use native.Mathlib.Omega.{arith}
 use Rattle.std.proofs.lemmas.Nat.{one_shl}
-use Rattle.expressions.specs.Answers.Refusal.{firstText}
-use Rattle.expressions.proofs.Refusals.{refuse-second, refuse-room, refuse-crowded}
+use Rattle.expressions.specs.Answers.Refusal.{first_text}
+use Rattle.expressions.proofs.Refusals.{refuse_second, refuse_room, refuse_crowded}
 use Rattle.expressions.proofs.Both.{built}
 use Rattle.expressions.proofs.express.Goals as goal
 
 pub returns-in-Fault : goal.returns-in-Fault
-returns-in-Fault c = (firstText c.in-Fault.ensures.0, refl)
+returns-in-Fault c = (first_text c.in-Fault.ensures.0, refl)
 
 pub returns-then-x-ge-MOST_STATES : goal.returns-then-x-ge-MOST_STATES
 returns-then-x-ge-MOST_STATES c =
-    refuse-crowded c.in-Read.ensures.0 c.args.two.now c.args.rows.now _ _ _ _ c.if-x-ge-MOST_STATES.true
+    refuse_crowded c.in-Read.ensures.0 c.args.two.now c.args.rows.now _ _ _ _ c.if-x-ge-MOST_STATES.true
     c.read_text-then-x-ge-MOST_STATES.result c.crowded.result c.read_text-then-x-ge-MOST_STATES.ensures c.crowded.ensures
 
 pub returns-in-Fault-read_text : goal.returns-in-Fault-read_text
-returns-in-Fault-read_text c = (refuse-second c.in-Read.ensures.0 (omega arith) c.in-Fault-read_text.ensures.0, refl)
+returns-in-Fault-read_text c = (refuse_second c.in-Read.ensures.0 (omega arith) c.in-Fault-read_text.ensures.0, refl)
 
 pub returns-then-rows-y : goal.returns-then-rows-y
-returns-then-rows-y c = (refuse-room c.in-Read.ensures.0 c.in-Read-read_text.ensures.0 c.if-rows-y.true, refl)
+returns-then-rows-y c = (refuse_room c.in-Read.ensures.0 c.in-Read-read_text.ensures.0 c.if-rows-y.true, refl)
 
 pub returns : goal.returns
 returns c =

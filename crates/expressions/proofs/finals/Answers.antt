@@ -1,7 +1,7 @@
 -- The last positions of both, with the starts that the empty sequence makes final.
-use Rattle.expressions.specs.Both.{finalsFrom}
+use Rattle.expressions.specs.Both.{finals_from}
 use Rattle.expressions.proofs.finals.Goals as goal
 
 pub returns : goal.returns
-unfolding finalsFrom
+unfolding finals_from
 returns c = cc

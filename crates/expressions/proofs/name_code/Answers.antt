@@ -4,27 +4,27 @@ use mathlib.Core.Bool.{true, false}
 use native.Mathlib.Omega.{arith}
 use Rattle.std.specs.Prelude.{bytes_eq}
 use Rattle.text.specs.Text.{word}
-use Rattle.expressions.specs.Texts.{nameItem}
+use Rattle.expressions.specs.Texts.{name_item}
 use Rattle.expressions.specs.Pieces.{decode}
 use Rattle.expressions.proofs.name_code.Goals as goal
 
 pub returns-then-eq : goal.returns-then-eq
-unfolding nameItem decode
+unfolding name_item decode
 returns-then-eq c =
     let one : bytes_eq c.args.run.now (word "1") ≡ true = rw (← c.as_slice.ensures) (sym c.eq.ensures ∙ c.if-eq.true) in
-    record { known = omega arith; not-end = λ e. omega arith; item = rw one }
+    record { known = omega arith; not_end = λ e. omega arith; item = rw one }
 
 pub returns-then-eq-2 : goal.returns-then-eq-2
-unfolding nameItem decode
+unfolding name_item decode
 returns-then-eq-2 c =
     let one : bytes_eq c.args.run.now (word "1") ≡ false = rw (← c.as_slice.ensures) (sym c.eq.ensures ∙ c.if-eq.false) in
     let nought : bytes_eq c.args.run.now (word "0") ≡ true = rw (← c.as_slice-2.ensures) (sym c.eq-2.ensures ∙ c.if-eq-2.true) in
-    record { known = omega arith; not-end = λ e. omega arith; item = rw (one, nought) }
+    record { known = omega arith; not_end = λ e. omega arith; item = rw (one, nought) }
 
 pub returns : goal.returns
-unfolding nameItem
+unfolding name_item
 returns c =
     let one : bytes_eq c.args.run.now (word "1") ≡ false = rw (← c.as_slice.ensures) (sym c.eq.ensures ∙ c.if-eq.false) in
     let nought : bytes_eq c.args.run.now (word "0") ≡ false = rw (← c.as_slice-2.ensures) (sym c.eq-2.ensures ∙ c.if-eq-2.false) in
     let k = c.find.ensures in
-    record { known = k.known; not-end = k.not-end; item = rw (one, nought) k.item }
+    record { known = k.known; not_end = k.not_end; item = rw (one, nought) k.item }

@@ -2,11 +2,11 @@
 use Prim.Native.Nat.{◌-◌, ◌≤◌}
 use lib.ListN.{length, drop}
 use Rattle.lent.proofs.Putting.{Left}
-use Rattle.numbers.specs.Format.{encodeAll}
+use Rattle.numbers.specs.Format.{encode_all}
 use Rattle.numbers.proofs.write_all.Given as goal
 
 abbrev pub invariant-loop-i : goal.invariant-loop-i
-invariant-loop-i l = record { within : l.i ≤ length l.list; left : Left l.fn.out l.at (encodeAll l.list) l.out l.place (encodeAll (drop l.i l.list)) }
+invariant-loop-i l = record { within : l.i ≤ length l.list; left : Left l.fn.out l.at (encode_all l.list) l.out l.place (encode_all (drop l.i l.list)) }
 
 abbrev pub decreases-loop-i : goal.decreases-loop-i
 decreases-loop-i l = length l.list - l.i

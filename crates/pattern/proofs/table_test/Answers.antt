@@ -1,7 +1,7 @@
 -- `pattern::table_test` is the definition of that name; the product of two numbers in range fits.
-use Rattle.pattern.specs.Tests.{tableTest}
+use Rattle.pattern.specs.Tests.{table_test}
 use Rattle.pattern.proofs.table_test.Goals as goal
 
 pub returns : goal.returns
-unfolding tableTest
+unfolding table_test
 returns c = c.need.ensures

@@ -2,15 +2,15 @@
 use mathlib.Core.Path.{refl, sym, ◌∙◌}
 use native.Mathlib.Omega.{arith}
 use Rattle.numbers.specs.Numbers.{AreBytes}
-use Rattle.numbers.proofs.Taking.{done-on, refused-on, took}
-use Rattle.patternfile.proofs.Filling.{filling-first, filling-stopped, filling-step, filling-done}
+use Rattle.numbers.proofs.Taking.{done_on, refused_on, took}
+use Rattle.patternfile.proofs.Filling.{filling_first, filling_stopped, filling_step, filling_done}
 use Rattle.patternfile.proofs.fill.Goals as goal
 
 pub loop-i-init : goal.loop-i-init
-loop-i-init c = filling-first c.args.bytes.now c.args.at c.args.count c.args.rows.now c.requires
+loop-i-init c = filling_first c.args.bytes.now c.args.at c.args.count c.args.rows.now c.requires
 
 pub returns-in_default : goal.returns-in_default
-returns-in_default c = filling-stopped c.loop-i.invariant c.loop-i-test.true refl (refused-on c.args.bytes.now c.loop-i.place c.read-row.ensures c.in_default.is)
+returns-in_default c = filling_stopped c.loop-i.invariant c.loop-i-test.true refl (refused_on c.args.bytes.now c.loop-i.place c.read-row.ensures c.in_default.is)
 
 pub overflow_add-place : goal.overflow_add-place
 overflow_add-place c =
@@ -19,7 +19,7 @@ overflow_add-place c =
     omega (arith, t.within)
 
 pub loop-i-preserved : goal.loop-i-preserved
-loop-i-preserved c = filling-step c.loop-i.invariant c.loop-i-test.true (omega arith) refl (done-on c.args.bytes.now c.loop-i.place c.read-row.ensures c.in-Done.is)
+loop-i-preserved c = filling_step c.loop-i.invariant c.loop-i-test.true (omega arith) refl (done_on c.args.bytes.now c.loop-i.place c.read-row.ensures c.in-Done.is)
 
 pub returns : goal.returns
-returns c = filling-done c.loop-i.invariant c.loop-i-test.false
+returns c = filling_done c.loop-i.invariant c.loop-i-test.false

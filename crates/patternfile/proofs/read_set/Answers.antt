@@ -3,9 +3,9 @@ use Prim.Native.Nat.{◌+◌}
 use mathlib.Core.Path.{sym, ap, ◌∙◌}
 use native.Mathlib.Omega.{arith}
 use Rattle.verdict.specs.declared.Verdict.{Verdict}
-use Rattle.pattern.specs.Tests.{setTest}
+use Rattle.pattern.specs.Tests.{set_test}
 use Rattle.numbers.specs.Format.{ruled}
-use Rattle.numbers.proofs.Taking.{done-held, refused-held, took}
+use Rattle.numbers.proofs.Taking.{done_held, refused_held, took}
 use Rattle.patternfile.proofs.read_set.Goals as goal
 
 pub overflow_add-at : goal.overflow_add-at
@@ -17,7 +17,7 @@ pub returns-in-Done : goal.returns-in-Done
 returns-in-Done c =
     c.ruled.ensures
     ∙ ap (λ (u : Verdict). ruled u c.args.at c.in-Done.v (c.args.at + c.in-Done.took)) (c.set_test.ensures)
-    ∙ done-held (setTest c.args.states) c.args.bytes.now c.args.at c.read.ensures c.in-Done.is
+    ∙ done_held (set_test c.args.states) c.args.bytes.now c.args.at c.read.ensures c.in-Done.is
 
 pub returns-in-Refused : goal.returns-in-Refused
-returns-in-Refused c = refused-held (setTest c.args.states) c.args.bytes.now c.args.at c.read.ensures c.in-Refused.is
+returns-in-Refused c = refused_held (set_test c.args.states) c.args.bytes.now c.args.at c.read.ensures c.in-Refused.is

@@ -2,11 +2,11 @@
 use mathlib.Core.Path.{sym, ◌∙◌}
 use native.Mathlib.Omega.{arith}
 use lib.ListN.{length}
-use Rattle.pattern.specs.Pattern.{patternOf}
-use Rattle.patternfile.proofs.Refusals.{write-fine}
+use Rattle.pattern.specs.Pattern.{pattern_of}
+use Rattle.patternfile.proofs.Refusals.{write_fine}
 use Rattle.patternfile.proofs.write.Goals as goal
 
 pub put_pattern-requires : goal.put_pattern-requires
 put_pattern-requires c =
-    let pattern = patternOf c.args.states c.args.letters c.args.finals c.args.rows.now in
-    omega (arith, ((write-fine pattern c.args.x c.args.y (length c.args.out.now)).0 (sym c.write_test-test.ensures ∙ c.in_default.is)).enough)
+    let pattern = pattern_of c.args.states c.args.letters c.args.finals c.args.rows.now in
+    omega (arith, ((write_fine pattern c.args.x c.args.y (length c.args.out.now)).0 (sym c.write_test-test.ensures ∙ c.in_default.is)).enough)

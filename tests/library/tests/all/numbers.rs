@@ -187,7 +187,9 @@ fn random_forms_are_read_as_the_reference_does() {
             Err(_) => counts[3] += 1,
         }
     }
-    assert!(counts.iter().all(|count| *count > 2000), "{counts:?}");
+    let [right, cut, padded, too_big] = counts;
+    let enough = right.min(cut).min(padded + too_big) > 5000 && padded.min(too_big) > 2000;
+    assert!(enough, "{counts:?}");
 }
 
 /// Catches a bit that is lost on the way out.

@@ -92,6 +92,7 @@ fn each_kind_of_damage_has_its_refusal() {
     let table = [
         (Damage::Cut, CUT),
         (Damage::Padded, PADDED),
+        (Damage::Longer, TOO_BIG),
         (Damage::Tail, TAIL),
     ];
     let mut random = Random::new(23);
