@@ -27,7 +27,7 @@ USE = re.compile(r"^[ \t]*(?:pub )?(?:ghost )?use ([^\s;{]+?)(?:\.?\{([^}]*)\})?
 # What is no code: comments, strings, characters.
 ANTT = re.compile(r'--.*$|"(?:[^"\\\n]|\\.)*"', re.M)
 RUST = re.compile(r'//.*$|b?"(?:[^"\\]|\\.)*"|b?\'(?:[^\'\\\n]|\\.)\'', re.M)
-# What an answer file declares that is no goal.
+# A declaration, or a name that is given inside of one.
 BESIDE = re.compile(r"(?:^|\blet )(?:abbrev )?(?:pub )?([a-z][\w']*(?:-[\w']+)+)(?: [({].*?[)}])* (?::(?! goal\.)|=)", re.M)
 # The variables of an answer behind which stands what a goal gives.
 GIVEN = re.compile(r"\| (?:then|else|in)[-_]\S* (\w+) ↦|let (\w+) = \(goal\.at")
@@ -72,13 +72,18 @@ def foreign(text):
     return names
 
 
+def beside_goals(path, text):
+    """What an answer file declares that is no goal; nothing of a proof that walks the code by hand, where nearly all names are made."""
+    return set() if path.endswith("Proof.antt") else {n for n in BESIDE.findall(text) if f"{n} : goal." not in text}
+
+
 def own_names():
     """Each of the repository's own names that is to be spelled anew, with its new spelling."""
     found = {}
     for path in files("crates", ".antt"):
         text = text_of(path)
         brought = foreign(text)
-        declared = {n for n in BESIDE.findall(text) if f"{n} : goal." not in text} if os.path.basename(path) in OF_GOALS else None
+        declared = beside_goals(path, text) if os.path.basename(path) in OF_GOALS else None
         for is_code, part in parts(text, ANTT):
             for name in NAME.findall(part) if is_code else ():
                 if OLD.match(name) and name not in brought and (declared is None or name in declared):

@@ -7,7 +7,7 @@
 --   Path, Word   the letters from the start to a record, and to a candidate
 --   Outcome      what the walk comes to; kept_of, word_of and examined_of are its parts
 --   Ends         the walk stops: rules 2 and 3, or no candidate is left
---   Walk         moves from the beginning, and an end: every valid question has one outcome (`Walk-Ends`, `walk_unique`)
+--   Walk         moves from the beginning, and an end: every valid question has one outcome (`walk_ends`, `walk_unique`)
 use Rattle.std.specs.Prelude.{◌≡◌, List, [], ◌∷◌, ◌++◌, map, ℕ, zero, suc, ◌+◌, ◌*◌, ◌/◌, ◌%◌, ◌≤◌, ◌<◌, length, get_or}
 use Rattle.pattern.specs.Pattern.{Pattern, pattern_of}
 use Rattle.pattern.specs.Language.{next, accepts}

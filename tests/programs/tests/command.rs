@@ -278,6 +278,16 @@ fn what_is_not_proved_is_not_asked() {
     assert_eq!(repository.said(&[&example("first-answer")]).status, Some(1));
 }
 
+/// Catches a copy of the command alone whose failure scripts take for DIFFERENT.
+#[test]
+fn a_command_copied_without_what_it_stands_on_gives_no_answer() {
+    let repository = Repository::new("alone");
+    repository.has_not("bin/program.sh");
+    let said = repository.said(&[&example("recent-drop")]);
+    assert_eq!((said.out.as_str(), said.status), ("", Some(4)));
+    assert!(said.err.contains("program.sh"), "{said:?}");
+}
+
 /// Catches an answer that is lost, in whole or in part, with the status of one that was given.
 #[test]
 fn an_answer_that_cannot_be_written_is_none() {

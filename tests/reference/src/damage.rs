@@ -135,7 +135,7 @@ fn longer(random: &mut Random, value: u64) -> Vec<u8> {
     ended(bytes)
 }
 
-/// Every byte says that another follows, and a group of 0 does.
+/// The bytes, each made to say that another follows, and a group of 0 behind them.
 fn ended(mut bytes: Vec<u8>) -> Vec<u8> {
     for byte in &mut bytes {
         *byte |= FOLLOWS;
