@@ -4,7 +4,7 @@ use mathlib.Core.Path.{◌≡◌, sym, subst}
 use mathlib.Core.List.{List}
 use Prim.Native.Nat.{ℕ, ◌*◌, ◌≤◌}
 use lib.ListN.{length, take}
-use Rattle.verdict.specs.declared.Verdict.TheVariants.{Fine}
+use Rattle.verdict.specs.Verdict.Verdict.{Fine}
 use Rattle.verdict.proofs.Ordered.{apart}
 use Rattle.lent.specs.Lent.{lay}
 use Rattle.numbers.specs.Numbers.{AreBytes}

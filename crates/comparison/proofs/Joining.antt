@@ -5,8 +5,8 @@ use mathlib.Core.Logic.{◌↔◌}
 use mathlib.Core.List.{List, ◌∷◌}
 use Prim.Native.Nat.{ℕ, ◌≤◌}
 use native.Mathlib.Omega.{arith}
-use Rattle.verdict.specs.declared.Verdict.{Verdict}
-use Rattle.verdict.specs.declared.Verdict.TheVariants.{Fine, Against}
+use Rattle.verdict.specs.Verdict.{Verdict}
+use Rattle.verdict.specs.Verdict.Verdict.{Fine, Against}
 use Rattle.verdict.specs.Tests.{in_order}
 use Rattle.verdict.specs.Lines.{Applies}
 use Rattle.pattern.proofs.Unions.{union_tested}

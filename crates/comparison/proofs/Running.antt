@@ -8,7 +8,7 @@ use native.Mathlib.Omega.{arith}
 use lib.ListN.{length, get_or, length-append}
 use lib.Seq.{get_or-take}
 use Rattle.lent.specs.Lent.{lay}
-use Rattle.verdict.specs.declared.Verdict.TheVariants.{Fine}
+use Rattle.verdict.specs.Verdict.Verdict.{Fine}
 use Rattle.sets.specs.Rooms.{max_room}
 use Rattle.walk.specs.Walk.{Record, begin, upcoming, Remains, keep, Moves, Moved}
 use Rattle.walk.specs.Walk.Outcome.{Same, Different, Full}

@@ -6,8 +6,8 @@
 --   Compared             what a call answers and leaves: one result for every call (`compare_determined`)
 --   Compares             the same, of lent slices: what stands in them when the call begins, and when it ends
 use Rattle.std.specs.Prelude.{◌≡◌, List, [], ◌∷◌, ℕ, length, leb}
-use Rattle.verdict.specs.declared.Verdict.{Verdict}
-use Rattle.verdict.specs.declared.Verdict.TheVariants.{Fine, Against}
+use Rattle.verdict.specs.Verdict.{Verdict}
+use Rattle.verdict.specs.Verdict.Verdict.{Fine, Against}
 use Rattle.verdict.specs.Tests.{need, in_order, each}
 use Rattle.lent.specs.Lent.{Slice, before, after, lay}
 use Rattle.sets.specs.Rooms.{max_room}

@@ -4,7 +4,7 @@
 --   Included               what a call answers and leaves: one result for every call (`within_determined`)
 --   Includes               the same, of lent slices
 use Rattle.std.specs.Prelude.{◌≡◌, List, ℕ}
-use Rattle.verdict.specs.declared.Verdict.TheVariants.{Fine, Against}
+use Rattle.verdict.specs.Verdict.Verdict.{Fine, Against}
 use Rattle.lent.specs.Lent.{Slice}
 use Rattle.walk.specs.Walk.{Outcome, kept_of, word_of, Walk}
 use Rattle.walk.specs.Inclusion.{joined}

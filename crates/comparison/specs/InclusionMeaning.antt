@@ -3,7 +3,7 @@
 --   HonestInclusion   what an answer means, by the numbers that a host sees (the scope, §13.3)
 --   QuietInclusion    what a refusal leaves: every number 0, all that is lent as it was
 use Rattle.std.specs.Prelude.{◌≡◌, ◌↔◌, ℕ, ◌+◌, ◌*◌, ◌≤◌, take}
-use Rattle.verdict.specs.declared.Verdict.TheVariants.{Against}
+use Rattle.verdict.specs.Verdict.Verdict.{Against}
 use Rattle.verdict.specs.Lines.{Applies}
 use Rattle.pattern.specs.Inclusion.{LanguageWithin, Escapes}
 use Rattle.walk.specs.Meaning.{Outgrows}

@@ -8,7 +8,7 @@
 --   SameWritten    two calls wrote the same records and the same sequence
 --   LessRoom       what a call in a smaller room answers and leaves, by what the larger one does
 use Rattle.std.specs.Prelude.{◌≡◌, ◌↔◌, ℕ, suc, ◌+◌, ◌*◌, ◌≤◌, ◌<◌, length, take}
-use Rattle.verdict.specs.declared.Verdict.TheVariants.{Against}
+use Rattle.verdict.specs.Verdict.Verdict.{Against}
 use Rattle.verdict.specs.Lines.{Lines, Applies}
 use Rattle.verdict.specs.Lines.Lines.{none, line}
 use Rattle.sets.specs.Sets.{Good}

@@ -3,7 +3,7 @@
 
 ghost use Rattle.std.specs.Prelude.{◌≡◌, leb};
 ghost use Rattle.verdict.specs.Tests.{need, each};
-ghost use Rattle.verdict.specs.declared.Verdict.TheVariants.{Fine};
+ghost use Rattle.verdict.specs.Verdict.Verdict.{Fine};
 ghost use Rattle.sets.specs.Rooms.{default_room};
 ghost use Rattle.comparison.specs.Answers.{lent_of, call_of, compare_test, Compares};
 ghost use Rattle.comparison.specs.Inner.{Spellable, Spelt, Proposable, Proposed, Ready, Deals};

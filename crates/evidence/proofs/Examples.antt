@@ -4,7 +4,7 @@ use mathlib.Core.List.{[], ◌∷◌}
 use Prim.Native.Nat.{ℕ, zero, suc}
 use native.Mathlib.Nat.{le_of_suc-le-suc, not-suc-le-zero}
 use native.Mathlib.Omega.{arith}
-use Rattle.verdict.specs.declared.Verdict.TheVariants.{Fine}
+use Rattle.verdict.specs.Verdict.Verdict.{Fine}
 use Rattle.verdict.specs.Tests.{need, in_order, each}
 use Rattle.sets.specs.Sets.{meets}
 use Rattle.pattern.specs.Tests.{size_test, table_test, set_test, shape_test, masks_test}

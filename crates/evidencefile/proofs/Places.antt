@@ -9,7 +9,7 @@ use lib.Dec.{leb}
 use lib.ListN.{length, take, drop}
 use lib.Seq.{take_at}
 use borrow.Author.Tests.{leb-false}
-use Rattle.verdict.specs.declared.Verdict.TheVariants.{Against}
+use Rattle.verdict.specs.Verdict.Verdict.{Against}
 use Rattle.verdict.proofs.Ordered.{apart, need_against}
 use Rattle.sets.specs.Rooms.{max_room}
 use Rattle.pattern.specs.Pattern.{Pattern}

@@ -7,7 +7,7 @@ use mathlib.Core.Path.{◌≡◌, refl, sym, ap, ◌∙◌, subst}
 use native.Mathlib.Nat.{zero-add}
 use native.Mathlib.Omega.{arith}
 use lib.ListN.{length}
-use Rattle.verdict.specs.declared.Verdict.TheVariants.{Against}
+use Rattle.verdict.specs.Verdict.Verdict.{Against}
 use Rattle.verdict.specs.Tests.{need, Among}
 use Rattle.verdict.proofs.Ordered.{apart, one_number}
 use Rattle.verdict.proofs.Numbered.{among_need, among_from}

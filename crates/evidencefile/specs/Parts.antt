@@ -2,7 +2,7 @@
 --   counted r       what reading the count and the pairs comes to: the count and the place after the last pair, or the fault
 --   FilledPairs ..  what the second pass leaves in the two side buffers
 use Rattle.std.specs.Prelude.{ℕ, ◌*◌, List, [], ◌∷◌, ◌≡◌, length}
-use Rattle.verdict.specs.declared.Verdict.{Verdict}
+use Rattle.verdict.specs.Verdict.{Verdict}
 use Rattle.lent.specs.Lent.{lay}
 use Rattle.numbers.specs.declared.Number.{Number}
 use Rattle.numbers.specs.declared.Number.TheVariants.{Value, Fault}

@@ -4,8 +4,8 @@
 --   Writes o old r new     the writer's promise: the answer r, and the buffer `new` where it was `old`; nothing is left open (`writer_determined`),
 --                          and with the reader it goes round both ways (`read_after_write`, `write_after_read`)
 use Rattle.std.specs.Prelude.{ℕ, ◌≤◌, List, [], ◌∷◌, ◌≡◌, length}
-use Rattle.verdict.specs.declared.Verdict.{Verdict}
-use Rattle.verdict.specs.declared.Verdict.TheVariants.{Fine, Against}
+use Rattle.verdict.specs.Verdict.{Verdict}
+use Rattle.verdict.specs.Verdict.Verdict.{Fine, Against}
 use Rattle.verdict.specs.Tests.{in_order}
 use Rattle.lent.specs.Lent.{Put}
 use Rattle.pattern.specs.Tests.{space_test}

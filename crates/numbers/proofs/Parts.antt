@@ -4,8 +4,8 @@ use mathlib.Core.List.{List, [], ◌∷◌, ◌++◌, append_assoc}
 use mathlib.Core.Path.{◌≡◌, refl, sym, ap, ◌∙◌}
 use native.Mathlib.Omega.{arith}
 use lib.ListN.{length, take, drop}
-use Rattle.verdict.specs.declared.Verdict.{Verdict}
-use Rattle.verdict.specs.declared.Verdict.TheVariants.{Fine, Against}
+use Rattle.verdict.specs.Verdict.{Verdict}
+use Rattle.verdict.specs.Verdict.Verdict.{Fine, Against}
 use Rattle.numbers.specs.declared.Number.{Number}
 use Rattle.numbers.specs.declared.Number.TheVariants.{Value, Fault}
 use Rattle.numbers.specs.Numbers.{encode, number_at}

@@ -8,7 +8,7 @@ use native.Mathlib.Numerals.{add-one}
 use native.Mathlib.Omega.{arith}
 use lib.ListN.{length, drop, get_or, drop_of_length-le}
 use lib.Seq.{drop-cons}
-use Rattle.verdict.specs.declared.Verdict.TheVariants.{Fine, Against}
+use Rattle.verdict.specs.Verdict.Verdict.{Fine, Against}
 use Rattle.numbers.specs.declared.NumberRead.TheVariants.{Done, Refused}
 use Rattle.numbers.specs.Numbers.{byte_test, Form, whole, faulty, more, groups, answered, read_at}
 use Rattle.numbers.proofs.Groups.{fine_tenth, fine_more, groups_none, groups_bad, groups_last, groups_more}

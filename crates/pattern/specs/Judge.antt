@@ -6,8 +6,8 @@
 --   judge_lines   the lines of the refusals: `judge_test` goes by them (`judge_lines_lem`)
 --   HonestJudge   what an answer means to a host that sees its number (`judge_honest`)
 use Rattle.std.specs.Prelude.{◌≡◌, ◌↔◌, Bool, true, false, List, [], ◌∷◌, ℕ, ◌≤◌, ltb}
-use Rattle.verdict.specs.declared.Verdict.{Verdict}
-use Rattle.verdict.specs.declared.Verdict.TheVariants.{Fine, Against}
+use Rattle.verdict.specs.Verdict.{Verdict}
+use Rattle.verdict.specs.Verdict.Verdict.{Fine, Against}
 use Rattle.verdict.specs.Tests.{need, in_order, each}
 use Rattle.verdict.specs.Lines.{Lines, Applies}
 use Rattle.verdict.specs.Lines.Lines.{none, line}

@@ -7,8 +7,8 @@ use native.Mathlib.Omega.{arith}
 use lib.ListN.{length, take, drop, get_or, take-append-drop}
 use lib.Pow.{pow_mono}
 use lib.Seq.{take_at, drop_at, drop-append_seam, length-take-le}
-use Rattle.verdict.specs.declared.Verdict.{Verdict}
-use Rattle.verdict.specs.declared.Verdict.TheVariants.{Fine}
+use Rattle.verdict.specs.Verdict.{Verdict}
+use Rattle.verdict.specs.Verdict.Verdict.{Fine}
 use Rattle.sets.specs.Sets.{Good}
 use Rattle.pattern.specs.Pattern.{Pattern, Valid, pattern_of}
 use Rattle.pattern.specs.Tests.{size_test, set_test, space_test}

@@ -4,7 +4,7 @@
 --   Judges bytes room r           the answer of the first pass
 --   Filled ..                     what the second pass leaves
 use Rattle.std.specs.Prelude.{ℕ, ◌*◌, List, ◌≡◌, length}
-use Rattle.verdict.specs.declared.Verdict.{Verdict}
+use Rattle.verdict.specs.Verdict.{Verdict}
 use Rattle.lent.specs.Lent.{lay}
 use Rattle.pattern.specs.Pattern.{Pattern, pattern_of}
 use Rattle.numbers.specs.declared.Number.{Number}

@@ -6,8 +6,8 @@
 --   number_of r, count_of r   the number of an answer, and the byte count returned with it (`write_honest`)
 --   IsRefused r              the answer is a refusal
 use Rattle.std.specs.Prelude.{ℕ, ◌≤◌, List, [], ◌∷◌, ◌≡◌, length}
-use Rattle.verdict.specs.declared.Verdict.{Verdict}
-use Rattle.verdict.specs.declared.Verdict.TheVariants.{Fine, Against}
+use Rattle.verdict.specs.Verdict.{Verdict}
+use Rattle.verdict.specs.Verdict.Verdict.{Fine, Against}
 use Rattle.verdict.specs.Tests.{in_order}
 use Rattle.lent.specs.Lent.{Put}
 use Rattle.sets.specs.Sets.{Good}

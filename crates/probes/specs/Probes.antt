@@ -1,7 +1,7 @@
 -- What the probes answer: 7 and the value, or a refusal and 0. They are for tests alone, so that inner functions can be held to a reference.
 use Rattle.std.specs.Prelude.{◌≡◌, List, [], ◌∷◌, ℕ, ◌≤◌, length, eqb, ltb}
-use Rattle.verdict.specs.declared.Verdict.{Verdict}
-use Rattle.verdict.specs.declared.Verdict.TheVariants.{Fine, Against}
+use Rattle.verdict.specs.Verdict.{Verdict}
+use Rattle.verdict.specs.Verdict.Verdict.{Fine, Against}
 use Rattle.verdict.specs.Tests.{need, in_order}
 use Rattle.pattern.specs.Pattern.{Pattern, pattern_of}
 use Rattle.pattern.specs.Tests.{shape_test}

@@ -7,8 +7,8 @@ use native.Mathlib.Decide.{dec_le}
 use lib.ListN.{length, get_or, set, take, replicate, length-map, get_or-map}
 use lib.Seq.{take-suc, take-length, length-take-le}
 use Rattle.std.proofs.lemmas.List.{length-replicate}
-use Rattle.verdict.specs.declared.Verdict.{Verdict}
-use Rattle.verdict.specs.declared.Verdict.TheVariants.{Fine, Against}
+use Rattle.verdict.specs.Verdict.{Verdict}
+use Rattle.verdict.specs.Verdict.Verdict.{Fine, Against}
 use Rattle.verdict.specs.Tests.{in_order, Among}
 use Rattle.verdict.proofs.Numbered.{among_need, among_each}
 use Rattle.lent.specs.Lent.{lay}

@@ -7,8 +7,8 @@ use native.Mathlib.Decide.{dec_le}
 use borrow.Author.Tests.{lt-leb}
 use lib.ListN.{length, take, length-map}
 use lib.Seq.{take_all, length-take-le}
-use Rattle.verdict.specs.declared.Verdict.{Verdict}
-use Rattle.verdict.specs.declared.Verdict.TheVariants.{Fine, Against}
+use Rattle.verdict.specs.Verdict.{Verdict}
+use Rattle.verdict.specs.Verdict.Verdict.{Fine, Against}
 use Rattle.verdict.specs.Tests.{in_order}
 use Rattle.verdict.proofs.Ordered.{apart, need_fails, order_fine}
 use Rattle.pattern.specs.Tests.{shape_test}

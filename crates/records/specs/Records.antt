@@ -7,7 +7,7 @@
 --                       (`pb_compare_by_columns`, `pb_compare_agrees`)
 --   IncludedRecords     the same of the one-way question (`pb_within_determined`, `pb_within_by_columns`, `pb_within_agrees`)
 use Rattle.std.specs.Prelude.{◌≡◌, List, map, ℕ}
-use Rattle.verdict.specs.declared.Verdict.TheVariants.{Fine, Against}
+use Rattle.verdict.specs.Verdict.Verdict.{Fine, Against}
 use Rattle.lent.specs.Lent.{lay}
 use Rattle.walk.specs.Walk.{Question, Record, Outcome, kept_of, word_of, Walk}
 use Rattle.walk.specs.Columns.{Field, value, Columns, columns_by}

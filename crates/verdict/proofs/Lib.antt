@@ -4,3 +4,4 @@ pub mod Each
 pub mod Numbered
 pub mod Lines
 pub mod Flags
+pub mod Refusals

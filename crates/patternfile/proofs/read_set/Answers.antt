@@ -2,7 +2,7 @@
 use Prim.Native.Nat.{◌+◌}
 use mathlib.Core.Path.{sym, ap, ◌∙◌}
 use native.Mathlib.Omega.{arith}
-use Rattle.verdict.specs.declared.Verdict.{Verdict}
+use Rattle.verdict.specs.Verdict.{Verdict}
 use Rattle.pattern.specs.Tests.{set_test}
 use Rattle.numbers.specs.Format.{ruled}
 use Rattle.numbers.proofs.Taking.{done_held, refused_held, took}
