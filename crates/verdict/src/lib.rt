@@ -3,7 +3,7 @@
 
 ghost use Rattle.std.specs.Prelude.{◌≡◌};
 ghost use Rattle.verdict.specs.Tests.{held};
-ghost use Rattle.verdict.specs.Refusals.{number};
+ghost use Rattle.verdict.specs.Refusals.{number, TestsEach};
 
 // Why a call is refused, by the scope's names and numbers.
 #[derive(Clone, Copy)]
@@ -48,4 +48,15 @@ pub fn need<E: Drop>(holds: bool, why: E) -> Result<(), E>
         return Ok(());
     }
     Err(why)
+}
+
+// One test of each value of a list: the first that fails refuses.
+pub fn every<T: Copy, F: Fn(T) -> Result<(), Refusal>>(values: &[T], test: F) -> Result<(), Refusal>
+    requires { F.IsAlwaysCallable test }
+    ensures { TestsEach (λ v r. F.post test v r) values.now result }
+{
+    for value in values {
+        test(*value)?;
+    }
+    Ok(())
 }
