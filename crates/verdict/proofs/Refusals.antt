@@ -1,9 +1,12 @@
 -- The refusals of the code, by their numbers: what a `Result` says, and what a caller learns who passes an `Err` on. Assumes nothing.
-use mathlib.Core.Path.{◌≡◌, refl, sym, ◌∙◌}
+use mathlib.Core.Path.{◌≡◌, refl, sym, ap, ◌∙◌}
 use mathlib.Core.Bool.{Bool, true, false}
 use mathlib.Core.List.{List, [], ◌∷◌}
+use Prim.Native.Nat.{ℕ, ◌-◌}
+use lib.ListN.{get_or}
 use Rattle.std.specs.Prelude.{Result, Ok, Err}
 use Rattle.verdict.specs.declared.Refusal.{Refusal}
+use Rattle.verdict.specs.declared.Refusal.TheVariants.{BadSize, BadTable, BadSet, BadRoom, NoRoom, BadLetter, BadList, Cut, Padded, Tail, TooBig, Syntax, TooMany, TooDeep}
 use Rattle.verdict.specs.Verdict.{Verdict}
 use Rattle.verdict.specs.Tests.{need, held, in_order}
 use Rattle.verdict.specs.Refusals.{number, said}
@@ -27,3 +30,29 @@ goes_on tests h e = rw (e, ← h) refl
 
 pub ends : {v w : Verdict} → w ≡ v → w ≡ in_order (v ∷ [])
 ends {v} e = e ∙ sym (order_last v)
+
+-- ---- a number names one refusal
+
+-- the refusals by their numbers, from 10 on; what no refusal has stands for BadSize
+named : ℕ → Refusal
+named w = get_or (BadSize ∷ BadTable ∷ BadSet ∷ BadRoom ∷ NoRoom ∷ BadLetter ∷ BadList ∷ BadSize ∷ BadSize ∷ BadSize ∷ Cut ∷ Padded ∷ Tail ∷ TooBig ∷ BadSize ∷ BadSize ∷ BadSize ∷ BadSize ∷ BadSize ∷ BadSize ∷ Syntax ∷ TooMany ∷ TooDeep ∷ []) (w - 10) BadSize
+
+named_number : (why : Refusal) → named (number why) ≡ why
+unfolding named
+named_number BadSize = refl
+named_number BadTable = refl
+named_number BadSet = refl
+named_number BadRoom = refl
+named_number NoRoom = refl
+named_number BadLetter = refl
+named_number BadList = refl
+named_number Cut = refl
+named_number Padded = refl
+named_number Tail = refl
+named_number TooBig = refl
+named_number Syntax = refl
+named_number TooMany = refl
+named_number TooDeep = refl
+
+pub one_refusal : {a b : Refusal} → number a ≡ number b → a ≡ b
+one_refusal {a} {b} e = sym (named_number a) ∙ ap named e ∙ named_number b
