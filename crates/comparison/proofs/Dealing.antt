@@ -75,20 +75,22 @@ module _ {c : Call} {n e : ℕ} (ready : Ready c n e) where
   long_lefts = length-take-le n c.lent.columns.lefts fit.lefts
 
   -- what the code asks for the candidate by, and what it gets
-  pub proposable : Proposable c.question.pattern.states c.question.pattern.letters c.question.pattern.rows (take n c.lent.columns.lefts) (take n c.lent.columns.rights) e
+  pub proposable : Proposable c.question.pattern (take n c.lent.columns.lefts) e
   proposable =
       record {
         states_fit = ready.valid.sized.states_fit;
         some_letter = ready.valid.sized.some_letter;
         tabled = ready.valid.tabled;
-        alike = long_lefts ∙ sym (length-take-le n c.lent.columns.rights fit.rights);
         remains = rw long_lefts (rw (length_records c.lent.columns n) at ready.remains);
       }
 
+  pub alike : length (take n c.lent.columns.lefts) ≡ length (take n c.lent.columns.rights)
+  alike = long_lefts ∙ sym (length-take-le n c.lent.columns.rights fit.rights)
+
   pub facing : {made : Candidate}
-      → Proposed c.question.pattern.states c.question.pattern.letters c.question.pattern.rows c.question.left c.question.right (take n c.lent.columns.lefts) (take n c.lent.columns.rights) e made
+      → Proposed c.question (take n c.lent.columns.lefts) (take n c.lent.columns.rights) e made
       → Facing c n e made
-  facing p = record { ready = ready; is = p.all c.question.pattern.finals (records_of c.lent.columns n) lefts rights }
+  facing p = record { ready = ready; is = p.all (records_of c.lent.columns n) lefts rights }
 
 module _ {c : Call} {n e : ℕ} {made : Candidate} (here : Facing c n e made) where
   -- congruent, and agreeing, as the code asks it
