@@ -1,5 +1,7 @@
 // The one-way question, whether every event sequence that is accepted from X is accepted from Y: the comparison of X+Y with Y.
 ghost use Rattle.std.specs.Prelude.{◌≡◌};
+ghost use Rattle.walk.specs.Inclusion.{joined};
+ghost use Rattle.comparison.specs.Answers.{question_in};
 ghost use Rattle.comparison.specs.Inclusion.{inclusion_of, Includes};
 
 use crate::{Answer, Tables};
@@ -45,14 +47,20 @@ impl From<Answer> for Inclusion {
     }
 }
 
+// The comparison that the one-way question is: X+Y with Y.
+pub fn joined<'a>(question: &Question<'a>) -> Question<'a>
+    ensures { question_in result ≡ joined (question_in question.now) }
+{
+    Question {
+        x: sets::union(question.x, question.y),
+        ..*question
+    }
+}
+
 // Asks in a given room whether all that is accepted from `x` is accepted from `y`. X+Y and Y are refused exactly as X and Y are.
 pub fn within(question: &Question, room: usize, tables: &mut Tables) -> Result<Inclusion, Refusal>
     ensures { Includes question.now room tables.old result tables.new }
 {
-    let either = Question {
-        x: sets::union(question.x, question.y),
-        ..*question
-    };
-    let answer = crate::compare(&either, room, tables)?;
+    let answer = crate::compare(&joined(question), room, tables)?;
     Ok(Inclusion::from(answer))
 }

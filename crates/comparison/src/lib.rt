@@ -1,12 +1,12 @@
 // The comparison of two sets of states: the walk of the scope (§5) over lent number slices.
 #![tactic(auto)]
 
-ghost use Rattle.std.specs.Prelude.{◌≡◌, leb};
-ghost use Rattle.verdict.specs.Tests.{need, each};
+ghost use Rattle.std.specs.Prelude.{◌≡◌, leb, Ok};
+ghost use Rattle.verdict.specs.Tests.{Decides, need, each};
 ghost use Rattle.verdict.specs.Verdict.Verdict.{Fine};
 ghost use Rattle.verdict.specs.Refusals.{said};
 ghost use Rattle.sets.specs.Rooms.{default_room};
-ghost use Rattle.comparison.specs.Answers.{call_in, compare_test, Compares};
+ghost use Rattle.comparison.specs.Answers.{number_of, values_of, call_in, compare_test, Compares};
 ghost use Rattle.comparison.specs.Inner.{Spellable, Spelt, Proposable, Proposed, Ready, Deals};
 
 pub mod inclusion; // inclusion.rt: the one-way question
@@ -32,6 +32,24 @@ pub enum Answer {
         kept: usize,
         examined: usize,
     },
+}
+
+impl Answer {
+    // How many records are kept.
+    pub fn kept(&self) -> usize
+        ensures { result ≡ (values_of (Ok self.now)).kept }
+    {
+        match *self {
+            Answer::Same { kept, .. } | Answer::Different { kept, .. } | Answer::Full { kept, .. } => kept,
+        }
+    }
+
+    // Whether it is FULL.
+    pub fn is_full(&self) -> bool
+        ensures { Decides (number_of (Ok self.now) ≡ 2) result }
+    {
+        matches!(self, Answer::Full { .. })
+    }
 }
 
 // What a comparison is lent: a list for each column of the records, and the sequence bytes.
