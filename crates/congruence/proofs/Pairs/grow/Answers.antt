@@ -1,9 +1,9 @@
--- `congruence::grow` goes on by passes until one adds nothing.
+-- `congruence::Pairs::grow` goes on by passes until one adds nothing.
 use Rattle.std.proofs.Common.{arith}
 use Rattle.sets.proofs.Inclusion.{within_le}
 use Rattle.congruence.proofs.Growth.{grown_on, grown_within}
 use Rattle.congruence.proofs.Passes.{held_none}
-use Rattle.congruence.proofs.grow.Goals as goal
+use Rattle.congruence.proofs.Pairs.grow.Goals as goal
 
 pub loop-mask-init : goal.loop-mask-init
 loop-mask-init c = held_none c.ranges.set.fits

@@ -1,8 +1,8 @@
--- `congruence::close` closes the set: growth toward every state ends in a closed one.
+-- `congruence::Pairs::close` closes the set: growth toward every state ends in a closed one.
 use mathlib.Core.Logic.{⊎_elim}
 use Rattle.std.proofs.Common.{arith}
 use Rattle.congruence.proofs.Passes.{every_state_closed}
-use Rattle.congruence.proofs.close.Goals as goal
+use Rattle.congruence.proofs.Pairs.close.Goals as goal
 
 pub returns : goal.returns
 returns c = record {

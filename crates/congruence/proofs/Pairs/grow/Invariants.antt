@@ -2,7 +2,7 @@
 use Rattle.std.proofs.Common.{◌-◌, ◌^◌}
 use Rattle.congruence.specs.Congruence.{Listed}
 use Rattle.congruence.proofs.Passes.{Held}
-use Rattle.congruence.proofs.grow.Given as goal
+use Rattle.congruence.proofs.Pairs.grow.Given as goal
 
 abbrev pub invariant-loop-mask : goal.invariant-loop-mask
 invariant-loop-mask l = Held (Listed l.lefts l.rights) l.set l.mask
