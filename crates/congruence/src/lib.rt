@@ -4,7 +4,7 @@
 ghost use Rattle.std.specs.Prelude.{◌≡◌, length};
 ghost use Rattle.verdict.specs.Tests.{Decides};
 ghost use Rattle.congruence.specs.Congruence.{Congruent};
-ghost use Rattle.congruence.specs.Closing.{Closes, Passes, Toward};
+ghost use Rattle.congruence.specs.Closing.{added, Closes, Passes, Toward};
 
 // A list of pairs, as its two sides.
 #[derive(Clone, Copy)]
@@ -12,6 +12,16 @@ pub struct Pairs<'a> {
     pub lefts: &'a [u64],
     pub rights: &'a [u64],
     ghost paired: { length lefts.now ≡ length rights.now },
+}
+
+// Where `a` lies within the mask, `b` is added.
+fn added(a: u64, b: u64, mask: u64) -> u64
+    ensures { result ≡ added a b mask }
+{
+    if sets::within(a, mask) {
+        return sets::union(b, mask);
+    }
+    mask
 }
 
 impl Pairs<'_> {
@@ -26,12 +36,8 @@ impl Pairs<'_> {
             if sets::within(goal, mask) {
                 return mask;
             }
-            if sets::within(*a, mask) {
-                mask = sets::union(*b, mask);
-            }
-            if sets::within(*b, mask) {
-                mask = sets::union(*a, mask);
-            }
+            mask = added(*a, *b, mask);
+            mask = added(*b, *a, mask);
         }
         mask
     }

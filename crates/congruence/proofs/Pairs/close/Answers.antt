@@ -9,7 +9,7 @@ returns c = record {
   grown = c.grow.ensures.grown;
   still =
       ⊎_elim
-      (λ w. every_state_closed {n = 64} (λ j. omega (arith, c.type_inv.lefts j)) (λ j. omega (arith, c.type_inv.rights j)) w)
+      (λ w. every_state_closed {n = 64} (λ j. omega (arith, c.args.self.now.lefts.now j)) (λ j. omega (arith, c.args.self.now.rights.now j)) w)
       (λ s. s)
       c.grow.ensures.ended;
 }
