@@ -1,7 +1,7 @@
--- `congruence::congruent` decides congruence: each set grows toward the other.
+-- `congruence::Pairs::congruent` decides congruence: each set grows toward the other.
 use Rattle.std.proofs.Common.{true≢false, sym}
 use Rattle.congruence.proofs.Deciding.{growing_decides, reaches}
-use Rattle.congruence.proofs.congruent.Goals as goal
+use Rattle.congruence.proofs.Pairs.congruent.Goals as goal
 
 pub returns-then-not-within : goal.returns-then-not-within
 returns-then-not-within c = record {
