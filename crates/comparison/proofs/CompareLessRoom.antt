@@ -74,7 +74,7 @@ module _ {Q : Question} (sized : Sized Q.pattern.states Q.pattern.letters) {room
           let first : firsts room (lay_columns (take room kept) lent.columns) ≡ columns_of (take room kept) =
           rw n at (firsts_laid (take room kept) lent.columns) in
           rw (e, number_laid Q.pattern.letters kept lent'.columns room l) (
-            ap (λ (m : ℕ). Ok {B = Refusal} (Answer.Full m (suc (number_kept Q.pattern.letters (columns_of kept) room)))) n,
+            ap (λ (m : ℕ). Ok (Answer.Full m (suc (number_kept Q.pattern.letters (columns_of kept) room)))) n,
             record { columns = first ∙ sym (firsts_of kept lent'.columns room (omega arith)); sequence = refl },
           )
 

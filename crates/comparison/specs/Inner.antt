@@ -1,11 +1,12 @@
 -- What the contracts of the private functions cite. No promise to a host rests on this file.
---   Spellable, Spelt   a path that can be written as a sequence, and the sequence written
+--   Spellable, Spelt   a path that can be written as a sequence, and the sequence written; Spells: the same in the code's tables
+--   Lists              the two sides of the first records, as the code's pairs
 --   Proposable, Proposed
 --                      a number that has a candidate, and the candidate as the code makes it
 --   records_of         the first records of the lent list; standing: the position that they make
 --   Ready, DealtWith   a position from which the walk can go on, and what dealing with one candidate leaves
 --   Deals              the same, of the code's question and tables, which are of the same slices
-use Rattle.std.specs.Prelude.{◌≡◌, List, [], ◌∷◌, ◌++◌, ℕ, zero, suc, ◌+◌, ◌*◌, ◌≤◌, ◌<◌, length, get_or}
+use Rattle.std.specs.Prelude.{◌≡◌, List, [], ◌∷◌, ◌++◌, ℕ, zero, suc, ◌+◌, ◌*◌, ◌≤◌, ◌<◌, length, get_or, take}
 use Rattle.lent.specs.Lent.{lay}
 use Rattle.pattern.specs.declared.Question.{Question as Asked}
 use Rattle.pattern.specs.Pattern.{Pattern, Tabled, Valid}
@@ -17,6 +18,7 @@ use Rattle.comparison.specs.Meaning.{Roomy}
 use Rattle.comparison.specs.declared.Dealt.{Dealt}
 use Rattle.comparison.specs.declared.Candidate.{Candidate}
 use Rattle.comparison.specs.declared.Tables.{Tables}
+use Rattle.congruence.specs.declared.Pairs.{Pairs}
 
 -- the path of a record, and one letter after it, fit the sequence bytes
 pub record Spellable (parents taken : List ℕ) (from : ℕ) (sequence : List ℕ) : Type 0 where
@@ -28,6 +30,17 @@ pub record Spellable (parents taken : List ℕ) (from : ℕ) (sequence : List �
 -- the path and the letter `last` stand first in the sequence bytes, and r is how many they are
 pub record Spelt (parents taken : List ℕ) (from last : ℕ) (old new : List ℕ) (r : ℕ) : Type 0 where
   pub all : (w : List ℕ) → Path parents taken from w → (r ≡ length w + 1) × (new ≡ lay (w ++ (last ∷ [])) old)
+
+-- the same of the code's tables, by the first n records: nothing but the sequence is written
+pub record Spells (old : Tables) (n from last r : ℕ) (new : Tables) : Type 0 where
+  pub spelt : Spelt (take n old.parents.now) (take n old.taken.now) from last old.sequence.now new.sequence.now r
+  pub columns_kept : (lent_in new).columns ≡ (lent_in old).columns
+  pub same_tables : SameTables old new
+
+-- the two sides of the first n records
+pub record Lists (t : Tables) (n : ℕ) (listed : Pairs) : Type 0 where
+  pub lefts_are : listed.lefts.now ≡ take n t.lefts.now
+  pub rights_are : listed.rights.now ≡ take n t.rights.now
 
 abbrev pub record_of : Candidate → Record
 record_of r = record { left = r.left; right = r.right; parent = r.parent; letter = r.letter }

@@ -1,13 +1,13 @@
 // The comparison of two sets of states: the walk of the scope (§5) over lent number slices.
 #![tactic(auto)]
 
-ghost use Rattle.std.specs.Prelude.{◌≡◌, leb, Ok};
+ghost use Rattle.std.specs.Prelude.{◌≡◌, ◌≤◌, leb, length, take, Ok};
 ghost use Rattle.verdict.specs.Tests.{Decides, need, each};
 ghost use Rattle.verdict.specs.Verdict.Verdict.{Fine};
 ghost use Rattle.verdict.specs.Refusals.{said};
 ghost use Rattle.sets.specs.Rooms.{default_room};
-ghost use Rattle.comparison.specs.Answers.{number_of, values_of, call_in, compare_test, Compares};
-ghost use Rattle.comparison.specs.Inner.{Spellable, Spelt, Proposable, Proposed, Ready, Deals};
+ghost use Rattle.comparison.specs.Answers.{number_of, values_of, question_in, call_in, compare_test, Compares};
+ghost use Rattle.comparison.specs.Inner.{Spellable, Spells, Proposable, Proposed, Ready, Deals};
 
 pub mod inclusion; // inclusion.rt: the one-way question
 
@@ -62,6 +62,22 @@ pub struct Tables<'a> {
     pub sequence: &'a mut [u8],
 }
 
+impl Tables<'_> {
+    ghost use Rattle.comparison.specs.Inner.{Lists};
+
+    // The two sides of the first `kept` records.
+    fn listed(&self, kept: usize) -> Pairs<'_>
+        requires lefts { kept ≤ length self.now.lefts.now }
+        requires rights { kept ≤ length self.now.rights.now }
+        ensures { Lists self.now kept result }
+    {
+        Pairs {
+            lefts: &self.lefts[..kept],
+            rights: &self.rights[..kept],
+        }
+    }
+}
+
 // BAD-ROOM: the room is at most each of the bounds.
 fn room_test(room: usize, bounds: &[usize]) -> Result<(), Refusal>
     ensures { said result ≡ each (λ most. need (leb room most) 13) bounds.now }
@@ -100,8 +116,8 @@ struct Candidate {
 
 // Candidate number `examined`, by the records whose sides are listed.
 fn propose(question: &Question, listed: &Pairs, examined: usize) -> Candidate
-    requires { Proposable question.now listed.now examined }
-    ensures { Proposed question.now listed.now examined result }
+    requires { Proposable (question_in question.now).pattern listed.now.lefts.now examined }
+    ensures { Proposed (question_in question.now) listed.now.lefts.now listed.now.rights.now examined result }
 {
     let Some(e) = examined.checked_sub(1) else {
         return Candidate {
@@ -123,25 +139,25 @@ fn propose(question: &Question, listed: &Pairs, examined: usize) -> Candidate
     }
 }
 
-// Writes the letters from the start to record `from`, and `last` after them; gives how many they are.
+// Writes the letters from the start to record `from`, one of the first `kept`, and `last` after them; gives how many they are.
 // The way up is gone twice, to count the letters and then to write them from the end: no second buffer.
-fn spell(parents: &[u16], taken: &[u8], from: usize, last: u8, sequence: &mut [u8]) -> usize
-    requires { Spellable parents.now taken.now from sequence.old }
-    ensures { Spelt parents.now taken.now from last sequence.old sequence.new result }
+fn spell(tables: &mut Tables, kept: usize, from: usize, last: u8) -> usize
+    requires { Spellable (take kept tables.old.parents.now) (take kept tables.old.taken.now) from tables.old.sequence.now }
+    ensures { Spells tables.old kept from last result tables.new }
 {
     let mut count = 0;
     let mut i = from;
     while i != 0 {
-        i = usize::from(parents[i]);
+        i = usize::from(tables.parents[i]);
         count += 1;
     }
-    sequence[count] = last;
+    tables.sequence[count] = last;
     let mut at = count;
     let mut j = from;
     while j != 0 {
         at -= 1;
-        sequence[at] = taken[j];
-        j = usize::from(parents[j]);
+        tables.sequence[at] = tables.taken[j];
+        j = usize::from(tables.parents[j]);
     }
     count + 1
 }
@@ -166,10 +182,7 @@ fn deal(
     requires { Ready (call_in question.now room tables.old) kept examined }
     ensures { Deals question.now room kept examined tables.old result tables.new }
 {
-    let listed = Pairs {
-        lefts: &tables.lefts[..kept],
-        rights: &tables.rights[..kept],
-    };
+    let listed = tables.listed(kept);
     let next = propose(question, &listed, examined);
     let Candidate {
         left,
@@ -187,9 +200,7 @@ fn deal(
         if examined == 0 {
             return Dealt::Different(0);
         }
-        let parents = &tables.parents[..kept];
-        let taken = &tables.taken[..kept];
-        let length = spell(parents, taken, parent, letter as u8, tables.sequence);
+        let length = spell(tables, kept, parent, letter as u8);
         return Dealt::Different(length);
     }
     if kept >= room {

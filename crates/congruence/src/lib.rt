@@ -56,13 +56,6 @@ impl Pairs<'_> {
         }
     }
 
-    // The set closed by the listed pairs: grown toward every state, so until no pair adds anything.
-    pub fn close(&self, set: u64) -> u64
-        ensures { Closes (listed_in self.now) set result }
-    {
-        self.grow(set, u64::MAX)
-    }
-
     // Whether two sets are congruent by the listed pairs: each grows until the other lies within. Leaves as soon as the first does not.
     pub fn congruent(&self, a: u64, b: u64) -> bool
         ensures { Decides (Congruent (listed_in self.now) a b) result }

@@ -1,9 +1,10 @@
 -- `comparison::room_test` holds the room against each bound.
-use Rattle.std.proofs.Common.{ℕ, leb, rules, ◌∙◌}
+use Rattle.std.proofs.Common.{ℕ, rules}
+use Rattle.std.specs.Prelude.{leb}
 use Rattle.verdict.specs.Tests.{need, each}
 use Rattle.verdict.proofs.Refusals.{said_held}
 use Rattle.comparison.proofs.room_test.Goals as goal
 
 pub returns : goal.returns
 unfolding each
-returns c = c.every.ensures.each (λ (most : ℕ). need (leb c.args.room most) 13) (λ most r h. ?)
+returns c = c.every.ensures.each (λ (most : ℕ). need (leb c.args.room most) 13) (λ most r h. search (said_held, rules))
