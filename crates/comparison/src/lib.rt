@@ -40,7 +40,9 @@ impl Answer {
         ensures { result ≡ (values_of (Ok self.now)).kept }
     {
         match *self {
-            Answer::Same { kept, .. } | Answer::Different { kept, .. } | Answer::Full { kept, .. } => kept,
+            Answer::Same { kept, .. }
+            | Answer::Different { kept, .. }
+            | Answer::Full { kept, .. } => kept,
         }
     }
 

@@ -1,23 +1,23 @@
 -- Closing as a function that computes: passes until one adds nothing. So congruence by a list of pairs is decided. Assumes nothing.
 use mathlib.Core.Path.{◌≡◌, refl, sym}
-use mathlib.Core.Bool.{Bool, true, false, cond, true≢false}
+use mathlib.Core.Bool.{Bool, true, false, true≢false}
 use mathlib.Core.List.{List, [], ◌∷◌}
-use Prim.Native.Nat.{ℕ, zero, suc, ◌+◌, ◌≤◌, ◌<◌}
+use Prim.Native.Nat.{ℕ, zero, suc, ◌+◌, ◌<◌}
 use native.Mathlib.Decide.{ℕ_discrete}
-use native.Mathlib.Numerals.{add-one}
 use native.Mathlib.Omega.{arith}
 use lib.ListN.{length, get_or}
-use lib.Bits.{bit_or, bit_and}
+use lib.Bits.{bit_or}
 use lib.Dec.{eqb}
 use borrow.Author.Tests.{eqb-true, eqb-false}
 use Rattle.sets.specs.Sets.{Within}
-use Rattle.sets.proofs.Inclusion.{within_trans, within_left, within_right, within_le, within_test}
-use Rattle.sets.proofs.Growing.{Stepped, Passed, took, passed_by, stepped_both, passed_none, passed_more}
+use Rattle.sets.proofs.Inclusion.{within_trans, within_left, within_right, within_le}
 use Rattle.congruence.specs.Congruence.{Congruent, Listed}
-use Rattle.congruence.specs.Closing.{added, Grows, Closed, Closes}
-use Rattle.congruence.specs.Closing.Grows.{nothing, right, left}
+use Rattle.congruence.specs.Closing.{Grows, Closed, Closes}
+use Rattle.congruence.specs.Closing.Grows.{nothing}
 use Rattle.congruence.proofs.Growth.{grown_on, grown_under}
-use Rattle.congruence.proofs.Passes.{StillAt, passed, whole, passed_closed}
+pub use Rattle.congruence.specs.Closing.{added}
+pub use Rattle.congruence.proofs.Passes.{passed}
+use Rattle.congruence.proofs.Passes.{whole, passed_closed}
 use Rattle.congruence.proofs.Deciding.{closing_decides}
 
 -- ---- passes until one adds nothing

@@ -15,10 +15,11 @@ use Rattle.std.proofs.Common.{rules}
 use Rattle.std.proofs.lemmas.List.{length-drop}
 use Rattle.verdict.specs.Tests.{Decides}
 use Rattle.verdict.proofs.Flags.{decides_determined}
-use Rattle.sets.specs.Sets.{Within, Good}
+use Rattle.sets.specs.Sets.{Within}
 use Rattle.sets.proofs.Inclusion.{within_trans, within_test}
 use Rattle.sets.proofs.Goodness.{good_within_all}
 use Rattle.sets.proofs.Growing.{Stepped, Passed, took, passed_by, stepped_both, passed_none, passed_more, passed_all}
+use Rattle.pattern.specs.Pattern.{AllGood}
 use Rattle.congruence.specs.Congruence.{Listed}
 use Rattle.congruence.specs.Closing.{added, Grows, Closed}
 use Rattle.congruence.specs.Closing.Grows.{nothing, right, left}
@@ -70,10 +71,10 @@ pub passed_closed : {Keeps : ℕ → Type 0} {ls rs : List ℕ} {before m i : �
 passed_closed l p e a b r = rw (← r.left, ← r.right) (passed_all l p e r.at r.below)
 
 -- a set that has every state adds nothing by pairs of sets of those states
-pub every_state_closed : {n mask : ℕ} {ls rs : List ℕ} → ((j : ℕ) → Good n (get_or ls j 0)) → ((j : ℕ) → Good n (get_or rs j 0)) → Within (2 ^ n - 1) mask → Closed (Listed ls rs) mask
-every_state_closed f g w a b r = (
-  λ v. within_trans (good_within_all (rw r.right at (g r.at))) w,
-  λ v. within_trans (good_within_all (rw r.left at (f r.at))) w,
+pub every_state_closed : {n mask : ℕ} {ls rs : List ℕ} → length ls ≡ length rs → AllGood n ls → AllGood n rs → Within (2 ^ n - 1) mask → Closed (Listed ls rs) mask
+every_state_closed t f g w a b r = (
+  λ v. within_trans (good_within_all (rw r.right at (g r.at (omega (arith, r.below, t))))) w,
+  λ v. within_trans (good_within_all (rw r.left at (f r.at r.below))) w,
 )
 
 -- ---- where the code's pass stands: these lefts and rights are left of the list, and m is the set after the pairs before them
@@ -117,6 +118,6 @@ module _ {ls rs : List ℕ} {set : ℕ} where
     pub walked_closed : length ls ≡ length rs → (length lefts ≡ 0) ⊎ (length rights ≡ 0) → m ≡ set → Closed (Listed ls rs) m
     walked_closed t n e =
         let l : length ls ≤ w.at = ⊎_elim
-            (λ z. omega (arith, z, ap length w.lefts_left, length-drop w.at ls))
-            (λ z. omega (arith, z, t, ap length w.rights_left, length-drop w.at rs)) n in
+        (λ z. omega (arith, z, ap length w.lefts_left, length-drop w.at ls))
+        (λ z. omega (arith, z, t, ap length w.rights_left, length-drop w.at rs)) n in
         rw w.mask (passed_closed l (passed_first ls rs set w.at w.bound) (sym w.mask ∙ e))

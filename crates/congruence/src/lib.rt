@@ -3,6 +3,7 @@
 
 ghost use Rattle.std.specs.Prelude.{◌≡◌, length};
 ghost use Rattle.verdict.specs.Tests.{Decides};
+ghost use Rattle.pattern.specs.Pattern.{AllGood};
 ghost use Rattle.congruence.specs.Congruence.{Congruent};
 ghost use Rattle.congruence.specs.Closing.{added, Closes, Passes, Toward};
 
@@ -23,6 +24,11 @@ fn added(a: u64, b: u64, mask: u64) -> u64
     }
     mask
 }
+
+// Every mask is a set of 64 states, by its type. It does nothing, and tells so much of a slice in a field.
+fn all_fit(masks: &[u64])
+    ensures { AllGood 64 masks.now }
+{}
 
 impl Pairs<'_> {
     ghost use Rattle.congruence.specs.Lent.{listed_in};
@@ -54,6 +60,15 @@ impl Pairs<'_> {
                 break mask;
             }
         }
+    }
+
+    // The set closed by the listed pairs: grown toward every state, so until no pair adds anything.
+    pub fn close(&self, set: u64) -> u64
+        ensures { Closes (listed_in self.now) set result }
+    {
+        all_fit(self.lefts);
+        all_fit(self.rights);
+        self.grow(set, u64::MAX)
     }
 
     // Whether two sets are congruent by the listed pairs: each grows until the other lies within. Leaves as soon as the first does not.

@@ -16,5 +16,5 @@ loop-a-preserved c = rw (c.added-mask-in-loop-a.ensures, c.added-mask.ensures) (
 pub returns : goal.returns
 returns c = record {
   grown = walked_grown c.loop-a.invariant;
-  still = λ e. inr (walked_closed c.loop-a.invariant c.args.self.now.paired (elim c.in-None.ensures.steps [ | inl x ↦ inl x.1.0 | inr x ↦ inr x.1.0 ]) e);
+  still = λ e. inr (walked_closed c.loop-a.invariant c.args.self.now.paired (elim c.in-None.ensures.steps [ inl x ↦ inl x.1.0 | inr x ↦ inr x.1.0 ]) e);
 }
