@@ -44,14 +44,29 @@ refusal_short number place = head_short (word "REFUSED") (number ∷ place ∷ [
 
 -- ---- words from a place on, each with a space in front
 
-pub spaced_none : (f : ℕ → List ℕ) (s : List ℕ) (i : ℕ) → length s ≤ i → spaced (map f (drop i s)) ≡ []
+pub spaced_none : {A : Type 0} (f : A → List ℕ) (s : List A) (i : ℕ) → length s ≤ i → spaced (map f (drop i s)) ≡ []
 unfolding spaced
 spaced_none f s i h = rw (drop_of_length-le s h)
 
-pub spaced_step : (f : ℕ → List ℕ) (s : List ℕ) (i : ℕ) → i < length s
-    → Splits (spaced (map f (drop i s))) (word " " ++ f (get_or s i 0)) (spaced (map f (drop (i + 1) s)))
+pub spaced_step : {A : Type 0} (f : A → List ℕ) (s : List A) (i : ℕ) {x : A} → i < length s → x ≡ get_or s i x
+    → Splits (spaced (map f (drop i s))) (word " " ++ f x) (spaced (map f (drop (i + 1) s)))
 unfolding spaced
-spaced_step f s i h = record { parts = rw (drop-cons s i 0 h, add-one) }
+spaced_step f s i {x} h e = record { parts = rw (drop-cons s i x h, ← e, add-one) }
+
+-- ---- words with single spaces between them: the first, and the others
+
+pub joined_none : {A : Type 0} (f : A → List ℕ) (s : List A) → length s ≡ 0 → [] ≡ joined (map f s)
+unfolding joined
+joined_none f [] h = refl
+joined_none f (x ∷ s) h = absurd (omega arith)
+
+pub joined_some : {A : Type 0} (f : A → List ℕ) {s : List A} {x : A} {rest : List A} → s ≡ x ∷ rest → Splits (joined (map f s)) (f x) (spaced (map f rest))
+unfolding joined
+joined_some f e = record { parts = rw e }
+
+pub line_parts : (ws : List (List ℕ)) → Splits (line ws) (joined ws) (word "\n")
+unfolding line
+line_parts ws = record { parts = refl }
 
 -- ---- one word more
 

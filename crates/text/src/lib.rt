@@ -1,9 +1,9 @@
 // Decimals and lines put on a page.
 #![tactic(auto)]
 
-ghost use Rattle.std.specs.Prelude.{◌∷◌, [], ◌++◌, map, ◌≡◌, ◌<◌};
+ghost use Rattle.std.specs.Prelude.{List, ℕ, ◌∷◌, [], map, ◌≡◌, ◌<◌};
 ghost use Rattle.lent.specs.Page.{HasRoomFor, Puts};
-ghost use Rattle.text.specs.Text.{word, decimal, digit as Text·digit, spaced, line, refusal_text};
+ghost use Rattle.text.specs.Text.{word, decimal, digit as Text·digit, spaced, joined, line, refusal_text};
 
 use lent::Page;
 
@@ -27,23 +27,66 @@ pub fn put_decimal(page: &mut Page, v: u64)
     page.put_byte(digit(v % 10));
 }
 
-// A decimal with a space in front, as the later words of a line have it.
-pub fn put_number(page: &mut Page, v: u64)
-    requires { HasRoomFor page.old (word " " ++ decimal v) }
-    ensures { Puts page.old (word " " ++ decimal v) page.new }
-{
-    page.put_byte(b' ');
-    put_decimal(page, v);
+// How values of a type are put, each as one word.
+pub trait Words {
+    type Value: Copy;
+
+    ghost word_of: { Self.Value → List ℕ };
+
+    fn put(page: &mut Page, value: Self::Value)
+        requires { HasRoomFor page.old (word_of value) }
+        ensures { Puts page.old (word_of value) page.new };
 }
 
-// Numbers, each with a space in front.
-pub fn put_numbers(page: &mut Page, numbers: &[u64])
-    requires { HasRoomFor page.old (spaced (map decimal numbers.now)) }
-    ensures { Puts page.old (spaced (map decimal numbers.now)) page.new }
-{
-    for number in numbers {
-        put_number(page, *number);
+// Numbers in decimal.
+pub struct Decimals;
+
+impl Words for Decimals {
+    type Value = u64;
+
+    ghost word_of = { decimal };
+
+    fn put(page: &mut Page, value: u64) {
+        put_decimal(page, value);
     }
+}
+
+// Words, each with a space in front.
+pub fn put_spaced<W: Words>(page: &mut Page, values: &[W::Value])
+    requires { HasRoomFor page.old (spaced (map W.word_of values.now)) }
+    ensures { Puts page.old (spaced (map W.word_of values.now)) page.new }
+{
+    for value in values {
+        page.put_byte(b' ');
+        W::put(page, *value);
+    }
+}
+
+// Words with single spaces between them.
+fn put_joined<W: Words>(page: &mut Page, values: &[W::Value])
+    requires { HasRoomFor page.old (joined (map W.word_of values.now)) }
+    ensures { Puts page.old (joined (map W.word_of values.now)) page.new }
+{
+    if let Some((first, rest)) = values.split_first() {
+        W::put(page, *first);
+        put_spaced::<W>(page, rest);
+    }
+}
+
+fn end_line(page: &mut Page)
+    requires { HasRoomFor page.old (word "\n") }
+    ensures { Puts page.old (word "\n") page.new }
+{
+    page.put_byte(b'\n');
+}
+
+// A line of words; an empty line where there are none.
+pub fn put_line<W: Words>(page: &mut Page, values: &[W::Value])
+    requires { HasRoomFor page.old (line (map W.word_of values.now)) }
+    ensures { Puts page.old (line (map W.word_of values.now)) page.new }
+{
+    put_joined::<W>(page, values);
+    end_line(page);
 }
 
 // A line of a name and its numbers.
@@ -53,8 +96,8 @@ pub fn put_head(page: &mut Page, name: &[u8], numbers: &[u64])
     ensures { Puts page.old (line (name.now ∷ map decimal numbers.now)) page.new }
 {
     page.put_bytes(name);
-    put_numbers(page, numbers);
-    page.put_byte(b'\n');
+    put_spaced::<Decimals>(page, numbers);
+    end_line(page);
 }
 
 // The line of a refusal.

@@ -5,4 +5,4 @@ use Rattle.text.proofs.Lines.{puts_line}
 use Rattle.text.proofs.put_head.Goals as goal
 
 pub returns : goal.returns
-returns c = puts_line (map decimal c.args.numbers.now) c.put_bytes.ensures c.put_numbers.ensures c.put_byte.ensures
+returns c = puts_line (map decimal c.args.numbers.now) c.put_bytes.ensures c.put_spaced.ensures c.end_line.ensures
