@@ -7,7 +7,7 @@ use native.Mathlib.Omega.{arith}
 use lib.ListN.{length}
 use Rattle.lent.specs.declared.Page.{Page}
 use Rattle.lent.specs.Page.{HasRoomFor, Puts}
-use Rattle.lent.proofs.Filling.{ToPut, Splits, to_put_first, to_put_room, to_put_step, to_put_done}
+use Rattle.lent.proofs.Filling.{ToPut, Splits, to_put_first, to_put_fits, to_put_step, to_put_done}
 use Rattle.numbers.specs.Numbers.{encode_in, encode}
 use Rattle.numbers.proofs.Groups.{encode_last, encode_more}
 
@@ -58,10 +58,10 @@ writing_next rest (suc m) s g h e p = record { m = m; small = omega (arith, pow-
 
 module _ {first : Page} {v : ℕ} {page : Page} {rest : ℕ} (c : Writing first v page rest) {b : ℕ} where
   pub writing_room : 128 ≤ rest → b ≡ 128 + rest % 128 → HasRoomFor page (b ∷ [])
-  writing_room h e = to_put_room c.left (more_splits c.m rest h e)
+  writing_room h e = to_put_fits c.left (more_splits c.m rest h e)
 
   pub writing_room_last : rest < 128 → b ≡ rest → HasRoomFor page (b ∷ [])
-  writing_room_last h e = to_put_room c.left (last_splits c.m rest h e)
+  writing_room_last h e = to_put_fits c.left (last_splits c.m rest h e)
 
   pub writing_step : {new : Page} → 128 ≤ rest → b ≡ 128 + rest % 128 → Puts page (b ∷ []) new → Writing first v new (rest / 128)
   writing_step h e p = writing_next rest c.m c.small c.left h e p
