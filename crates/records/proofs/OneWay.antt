@@ -32,9 +32,9 @@ as_within_lem (Err why) = ap (λ (n : ℕ). record { answer = n; kept = 0; exami
 
 pub compared_within : {Q : Question} {room : ℕ} {records : List PbRecord} {sequence : List ℕ} {r : PbCompared} {later : List PbRecord} {word : List ℕ}
     → ComparedRecords (joined Q) room records sequence r later word → IncludedRecords Q room records sequence (as_within r) later word
-compared_within {Q} {room} {records} {sequence} (ComparedRecords.refuses {why} e) =
+compared_within {Q} {room} {records} {sequence} (ComparedRecords.refuses why e) =
     subst (λ (s : PbCompared). IncludedRecords Q room records sequence s records sequence) (as_within_lem (Err why))
-    (IncludedRecords.refuses (sym (joined_test (call_on Q room records sequence)) ∙ e))
+    (IncludedRecords.refuses why (sym (joined_test (call_on Q room records sequence)) ∙ e))
 compared_within {Q} {room} {records} {sequence} (ComparedRecords.walks {o} f w) =
     subst (λ (s : PbCompared). IncludedRecords Q room records sequence s (lay_records (kept_of o) records) (lay (word_of o) sequence)) (as_within_lem (answer_of o))
     (IncludedRecords.walks (sym (joined_test (call_on Q room records sequence)) ∙ f) w)

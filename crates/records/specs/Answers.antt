@@ -5,14 +5,15 @@
 --   ComparedLists                what the comparison over lent lists returns and leaves: the promise of `comparison`, as a host reads it
 --   IncludedLists                the same of the one-way question
 --   CheckedOffer                 what the check returns: the promise of `evidence`, as a host reads it
-use Rattle.std.specs.Prelude.{◌≡◌, ℕ, zero, suc}
+use Rattle.std.specs.Prelude.{◌≡◌, ℕ, zero, suc, Result}
+use Rattle.verdict.specs.declared.Refusal.{Refusal}
 use Rattle.comparison.specs.Answers as Comparison
 use Rattle.comparison.specs.Answers.{Answered, Call, Lent, Compared, values_of}
 use Rattle.comparison.specs.Inclusion as Inclusion
 use Rattle.comparison.specs.Inclusion.{AnsweredOneWay, Included}
 use Rattle.evidence.specs.Evidence as Evidence
 use Rattle.evidence.specs.Evidence.{Offer, Checked, place_of}
-use Rattle.evidence.specs.declared.Answer as Evidence'
+use Rattle.evidence.specs.declared.Answer.{Answer}
 use Rattle.records.specs.declared.answers.PbCompared.{PbCompared}
 use Rattle.records.specs.declared.answers.PbChecked.{PbChecked}
 
@@ -31,7 +32,7 @@ one_way (suc (suc n)) = suc (suc n)
 abbrev pub as_within : PbCompared → PbCompared
 as_within s = record { answer = one_way s.answer; kept = s.kept; examined = s.examined; length = s.length }
 
-abbrev pub check_answer : Evidence'.Answer → PbChecked
+abbrev pub check_answer : Result Answer Refusal → PbChecked
 check_answer a = record { answer = Evidence.number_of a; place = place_of a }
 
 pub record ComparedLists (c : Call) (r : PbCompared) (later : Lent) : Type 0 where
@@ -45,6 +46,6 @@ pub record IncludedLists (c : Call) (r : PbCompared) (later : Lent) : Type 0 whe
   pub answers : r ≡ inclusion_answer answer
 
 pub record CheckedOffer (o : Offer) (r : PbChecked) : Type 0 where
-  pub answer : Evidence'.Answer
+  pub answer : Result Answer Refusal
   pub checked : Checked o answer
   pub answers : r ≡ check_answer answer

@@ -43,14 +43,14 @@ lay_records kept old = lay (map written kept) old
 
 -- a refusal changes nothing that is lent; any other answer is the walk's outcome
 pub data ComparedRecords (Q : Question) (room : ℕ) (records : List PbRecord) (sequence : List ℕ) : PbCompared → List PbRecord → List ℕ → Type 0 where
-  refuses : {why : Refusal} → compare_test (call_on Q room records sequence) ≡ Against (number why)
+  refuses : (why : Refusal) → compare_test (call_on Q room records sequence) ≡ Against (number why)
       → ComparedRecords Q room records sequence (compare_answer (Err why)) records sequence
   walks : {o : Outcome} → compare_test (call_on Q room records sequence) ≡ Fine → Walk Q room o
       → ComparedRecords Q room records sequence (compare_answer (answer_of o)) (lay_records (kept_of o) records) (lay (word_of o) sequence)
 
 -- a refusal is the comparison's, of X and Y as given, and changes nothing that is lent; any other answer is the outcome of the walk of X+Y and Y
 pub data IncludedRecords (Q : Question) (room : ℕ) (records : List PbRecord) (sequence : List ℕ) : PbCompared → List PbRecord → List ℕ → Type 0 where
-  refuses : {why : Refusal} → compare_test (call_on Q room records sequence) ≡ Against (number why)
+  refuses : (why : Refusal) → compare_test (call_on Q room records sequence) ≡ Against (number why)
       → IncludedRecords Q room records sequence (inclusion_answer (Err why)) records sequence
   walks : {o : Outcome} → compare_test (call_on Q room records sequence) ≡ Fine → Walk (joined Q) room o
       → IncludedRecords Q room records sequence (inclusion_answer (answered_one_way (answer_of o))) (lay_records (kept_of o) records) (lay (word_of o) sequence)
