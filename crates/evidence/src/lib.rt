@@ -44,7 +44,9 @@ fn holds(pattern: &Shaped, pairs: &Pairs, a: u64, b: u64) -> bool
     ensures { IsTrue result ↔ Holds (pattern_in pattern.now.pattern) pairs.now.lefts.now pairs.now.rights.now a b }
 {
     let Pattern {
-        letters, finals, ..
+        letters,
+        finals,
+        ..
     } = pattern.pattern;
     if sets::meets(a, finals) != sets::meets(b, finals) {
         return false;
@@ -105,11 +107,9 @@ impl Offer<'_> {
         if !pairs.congruent(self.x, self.y) {
             return Ok(Answer::NotProved(self.lefts.len()));
         }
-        Ok(by_pairs(
-            &Shaped {
-                pattern: self.pattern,
-            },
-            &pairs,
-        ))
+        let pattern = Shaped {
+            pattern: self.pattern,
+        };
+        Ok(by_pairs(&pattern, &pairs))
     }
 }
