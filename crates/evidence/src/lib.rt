@@ -43,15 +43,11 @@ fn list_test(lefts: usize, rights: usize) -> Result<(), Refusal>
 fn holds(pattern: &Shaped, pairs: &Pairs, a: u64, b: u64) -> bool
     ensures { IsTrue result ↔ Holds (pattern_in pattern.now.pattern) pairs.now.lefts.now pairs.now.rights.now a b }
 {
-    let Pattern {
-        letters,
-        finals,
-        ..
-    } = pattern.pattern;
+    let finals = pattern.pattern.finals;
     if sets::meets(a, finals) != sets::meets(b, finals) {
         return false;
     }
-    for letter in 0..letters {
+    for letter in 0..pattern.pattern.letters {
         if !pairs.congruent(pattern.next(a, letter), pattern.next(b, letter)) {
             return false;
         }
