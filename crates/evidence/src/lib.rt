@@ -43,13 +43,11 @@ fn list_test(lefts: usize, rights: usize) -> Result<(), Refusal>
 fn holds(pattern: &Shaped, pairs: &Pairs, a: u64, b: u64) -> bool
     ensures { IsTrue result ↔ Holds (pattern_in pattern.now.pattern) pairs.now.lefts.now pairs.now.rights.now a b }
 {
-    let Pattern {
-        letters, finals, ..
-    } = pattern.pattern;
+    let finals = pattern.pattern.finals;
     if sets::meets(a, finals) != sets::meets(b, finals) {
         return false;
     }
-    for letter in 0..letters {
+    for letter in 0..pattern.pattern.letters {
         if !pairs.congruent(pattern.next(a, letter), pattern.next(b, letter)) {
             return false;
         }
@@ -105,11 +103,9 @@ impl Offer<'_> {
         if !pairs.congruent(self.x, self.y) {
             return Ok(Answer::NotProved(self.lefts.len()));
         }
-        Ok(by_pairs(
-            &Shaped {
-                pattern: self.pattern,
-            },
-            &pairs,
-        ))
+        let pattern = Shaped {
+            pattern: self.pattern,
+        };
+        Ok(by_pairs(&pattern, &pairs))
     }
 }

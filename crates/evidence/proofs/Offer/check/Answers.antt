@@ -16,11 +16,11 @@ invariant_of-pairs c = record { paired = ((offer_valid _).0 (sym c.in_ok-check_t
 pub returns-then-not-congruent : goal.returns-then-not-congruent
 returns-then-not-congruent c = not_started (sym c.in_ok-check_test.ensures) (c.congruent.ensures.complete c.if-not-congruent.true)
 
-pub invariant_of-by_pairs-clause-states_bound : goal.invariant_of-by_pairs-clause-states_bound
-invariant_of-by_pairs-clause-states_bound c = ((offer_valid _).0 (sym c.in_ok-check_test.ensures)).pattern.sized.states_fit
+pub invariant_of-pattern-clause-states_bound : goal.invariant_of-pattern-clause-states_bound
+invariant_of-pattern-clause-states_bound c = ((offer_valid _).0 (sym c.in_ok-check_test.ensures)).pattern.sized.states_fit
 
-pub invariant_of-by_pairs-clause-rows_len : goal.invariant_of-by_pairs-clause-rows_len
-invariant_of-by_pairs-clause-rows_len c = ((offer_valid _).0 (sym c.in_ok-check_test.ensures)).pattern.tabled
+pub invariant_of-pattern-clause-rows_len : goal.invariant_of-pattern-clause-rows_len
+invariant_of-pattern-clause-rows_len c = ((offer_valid _).0 (sym c.in_ok-check_test.ensures)).pattern.tabled
 
 pub returns : goal.returns
 returns c = started (sym c.in_ok-check_test.ensures) (c.congruent.ensures.sound c.if-not-congruent.false) c.by_pairs.ensures
