@@ -10,12 +10,11 @@ use Rattle.sets.specs.Sets.{Has}
 use Rattle.expressions.specs.Expressions.{Expr}
 use Rattle.expressions.specs.Positions.{size, first, linked, follow, named, next_of, row_of, finals_of, second, states, Together}
 use Rattle.expressions.specs.Both.{Filled}
+use Rattle.expressions.specs.declared.Tables.{Tables}
 use Rattle.sets.proofs.Bits.{has_union}
 use Rattle.sets.proofs.Inclusion.{has_left, has_right, members_ext}
 use Rattle.expressions.proofs.Places.{In, has_linked, first_in, follow_in, named_in}
 use Rattle.expressions.proofs.Glushkov.{has_and, and_has}
-
--- ---- the loop that fills
 
 -- ---- what comes next by one letter, of both
 
@@ -111,14 +110,14 @@ module _ (e f : Expr) (s a : ℕ) where
   rows_both = members_ext _ _ from_both to_both
 
 -- the filled rows are those of the two automata
-pub filled_together : (e f : Expr) (fs ns rows rows' : List ℕ) (finals : ℕ) → states e f ≤ 64 → Filled (states e f * 32) fs ns rows rows'
-    → ((s : ℕ) → s < 64 → get_or fs s 0 ≡ next_both e f s) → ((a : ℕ) → a < 32 → get_or ns a 0 ≡ named_both e f a)
+pub filled_together : (e f : Expr) (t : Tables) (rows rows' : List ℕ) (finals : ℕ) → states e f ≤ 64 → Filled (states e f * 32) t rows rows'
+    → ((s : ℕ) → s < 64 → get_or t.follow s 0 ≡ next_both e f s) → ((a : ℕ) → a < 32 → get_or t.named a 0 ≡ named_both e f a)
     → finals ≡ bit_or (finals_of e 0) (finals_of f (second e)) → Together e f rows' finals
-filled_together e f fs ns rows rows' finals few h fl nm fin =
+filled_together e f t rows rows' finals few h fl nm fin =
     record {
       row =
           λ s a l b. h.entry (s * 32 + a) (omega arith)
-          ∙ ap₂ bit_and (ap (λ (z : ℕ). get_or fs z 0) (quot s a b) ∙ fl s (omega arith)) (ap (λ (z : ℕ). get_or ns z 0) (rem s a b) ∙ nm a b)
+          ∙ ap₂ bit_and (ap (λ (z : ℕ). get_or t.follow z 0) (quot s a b) ∙ fl s (omega arith)) (ap (λ (z : ℕ). get_or t.named z 0) (rem s a b) ∙ nm a b)
           ∙ rows_both e f s a;
       final = fin;
     }
