@@ -6,9 +6,12 @@ ghost use Rattle.std.specs.Int.Bits.{bit_or};
 ghost use Rattle.verdict.specs.Tests.{Decides};
 ghost use Rattle.sets.specs.Sets.{Within, meets};
 ghost use Rattle.pattern.specs.Pattern.{pattern_of};
+ghost use Rattle.pattern.specs.Lent.{pattern_in};
 ghost use Rattle.pattern.specs.Tests.{pattern_test};
+ghost use Rattle.pattern.specs.Language as Language;
 ghost use Rattle.numbers.specs.Numbers.{read_at};
-ghost use Rattle.probes.specs.Probes.{Probes, ProbesNext, ProbesClosing, ProbesCongruence, state_test};
+ghost use Rattle.numbers.specs.Told.{told_read};
+ghost use Rattle.probes.specs.Probes.{probed_by, Probes, ProbesNext, ProbesClosing, ProbesCongruence, state_test, next_test};
 ghost use Rattle.probes.specs.Numbers.{probed_number, WritesNumber};
 
 use congruence::Pairs;
@@ -51,7 +54,7 @@ pub struct ProbedNumber {
 }
 
 impl From<Result<Taken, Fault>> for ProbedNumber {
-    ghost from_gives = { λ number r. r ≡ probed_number (read_as number) };
+    ghost from_gives = { λ number r. r ≡ probed_number (told_read number) };
 
     fn from(number: Result<Taken, Fault>) -> ProbedNumber {
         match number {
@@ -137,8 +140,9 @@ pub extern "C" fn probe_next(
     Probed::from(next(&pattern, set, usize::from(letter)))
 }
 
+// The same of a pattern of the code.
 fn next(pattern: &Pattern, set: u64, letter: usize) -> Result<u64, Refusal>
-    ensures { Nexts (pattern_in pattern.now) set letter result }
+    ensures { Probes (next_test (pattern_in pattern.now) letter) (λ v. v ≡ Language.next (pattern_in pattern.now) set letter) (probed_by result) }
 {
     pattern.shape_test()?;
     verdict::need(letter < pattern.letters, Refusal::BadLetter)?;

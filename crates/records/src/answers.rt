@@ -34,11 +34,13 @@ impl From<Result<Compared, Refusal>> for PbCompared {
     fn from(answer: Result<Compared, Refusal>) -> PbCompared {
         match answer {
             Ok(Compared::Same { kept, examined }) => counted(0, kept, examined, 0),
-            Ok(Compared::Different {
-                kept,
-                examined,
-                length,
-            }) => counted(1, kept, examined, length),
+            Ok(
+                Compared::Different {
+                    kept,
+                    examined,
+                    length,
+                },
+            ) => counted(1, kept, examined, length),
             Ok(Compared::Full { kept, examined }) => counted(2, kept, examined, 0),
             Err(why) => counted(u8::from(why), 0, 0, 0),
         }
@@ -51,11 +53,13 @@ impl From<Result<Inclusion, Refusal>> for PbCompared {
     fn from(answer: Result<Inclusion, Refusal>) -> PbCompared {
         match answer {
             Ok(Inclusion::Within { kept, examined }) => counted(8, kept, examined, 0),
-            Ok(Inclusion::NotWithin {
-                kept,
-                examined,
-                length,
-            }) => counted(9, kept, examined, length),
+            Ok(
+                Inclusion::NotWithin {
+                    kept,
+                    examined,
+                    length,
+                },
+            ) => counted(9, kept, examined, length),
             Ok(Inclusion::Full { kept, examined }) => counted(2, kept, examined, 0),
             Err(why) => counted(u8::from(why), 0, 0, 0),
         }
