@@ -6,9 +6,8 @@ use lib.ListN.{length}
 use borrow.Author.Tests.{lt-ltb, le-ltb}
 use Rattle.verdict.specs.Verdict.{Verdict}
 use Rattle.verdict.specs.Verdict.Verdict.{Fine, Against}
-use Rattle.numbers.specs.declared.Number.{Number}
-use Rattle.numbers.specs.declared.Number.TheVariants.{Value, Fault}
-use Rattle.numbers.specs.Numbers.{number_at}
+use Rattle.numbers.specs.Numbers.{Number, number_at}
+use Rattle.numbers.specs.Numbers.Number.{Value, Fault}
 use Rattle.numbers.specs.Format.{Format, ended, item, gate, many, Reading, got, refused, held_to, or_refused, unless_refused, before, reading, no_tail, file_reading}
 use Rattle.numbers.proofs.Parts.{then_reading, before_all, going_on, followed, none_before, reading_followed, reading_many, reading_ended}
 

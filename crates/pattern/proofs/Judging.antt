@@ -19,8 +19,8 @@ use Rattle.pattern.specs.Pattern.{Pattern}
 use Rattle.pattern.specs.Refusals.{shape_lines}
 use Rattle.pattern.specs.Language.{accepts, Over}
 use Rattle.pattern.specs.Judge.{letter_test, judge_test, by_language, or_refused, judged, number_of, Judgeable, judge_lines, HonestJudge}
-use Rattle.pattern.specs.declared.Judged.{Judged}
-use Rattle.pattern.specs.declared.Judged.TheVariants.{Refused}
+use Rattle.pattern.specs.Judge.{Judged}
+use Rattle.pattern.specs.Judge.Judged.{Refused}
 use Rattle.pattern.proofs.Validity.{set_fine, pattern_valid}
 use Rattle.pattern.proofs.Refusals.{set_line, pattern_lines_lem}
 use Rattle.pattern.proofs.Words.{over_from, over_at}

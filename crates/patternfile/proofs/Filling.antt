@@ -9,9 +9,8 @@ use Rattle.verdict.specs.Verdict.Verdict.{Fine, Against}
 use Rattle.lent.proofs.Putting.{put_one, put_laid, Left, left_first, left_step, left_done}
 use Rattle.pattern.specs.Pattern.{Sized, pattern_of}
 use Rattle.pattern.specs.Tests.{set_test}
-use Rattle.numbers.specs.declared.Number.{Number}
-use Rattle.numbers.specs.declared.Number.TheVariants.{Value, Fault}
-use Rattle.numbers.specs.Numbers.{encode, number_at, AreBytes}
+use Rattle.numbers.specs.Numbers.{Number, encode, number_at, AreBytes}
+use Rattle.numbers.specs.Numbers.Number.{Value, Fault}
 use Rattle.numbers.specs.Format.{Format, ended, item, many, Reading, got, refused, held_to, or_refused, before, reading, encode_all, ruled}
 use Rattle.numbers.proofs.Formats.{refused_got, file_write_after_read}
 use Rattle.numbers.proofs.Parts.{many_none, many_more, many_length, reading_ended}

@@ -9,9 +9,8 @@ use Rattle.pattern.specs.Pattern.{Sized}
 use Rattle.pattern.specs.Tests.{size_test, set_test}
 use Rattle.pattern.proofs.Validity.{sized_fine, space_fine}
 use Rattle.pattern.proofs.Refusals.{space_line}
-use Rattle.numbers.specs.declared.Number.{Number}
-use Rattle.numbers.specs.declared.Number.TheVariants.{Value, Fault}
-use Rattle.numbers.specs.Numbers.{number_at}
+use Rattle.numbers.specs.Numbers.{Number, number_at}
+use Rattle.numbers.specs.Numbers.Number.{Value, Fault}
 use Rattle.numbers.specs.Format.{ended, item, many, Reading, got, refused, held_to, reading}
 use Rattle.numbers.proofs.RoundTrip.{fault_value}
 use Rattle.numbers.proofs.Formats.{held}

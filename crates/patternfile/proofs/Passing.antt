@@ -4,9 +4,8 @@ use mathlib.Core.List.{List}
 use mathlib.Core.Path.{◌≡◌, refl, sym, ap, ◌∙◌}
 use native.Mathlib.Omega.{arith}
 use Rattle.verdict.specs.Verdict.{Verdict}
-use Rattle.numbers.specs.declared.Number.{Number}
-use Rattle.numbers.specs.declared.Number.TheVariants.{Value, Fault}
-use Rattle.numbers.specs.Numbers.{number_at}
+use Rattle.numbers.specs.Numbers.{Number, number_at}
+use Rattle.numbers.specs.Numbers.Number.{Value, Fault}
 use Rattle.numbers.specs.Format.{Format, ended, item, many, Reading, got, refused, before, held_to, reading}
 use Rattle.numbers.proofs.Parts.{many_none, many_more, reading_ended}
 use Rattle.numbers.proofs.Steps.{item_taken, item_stopped}

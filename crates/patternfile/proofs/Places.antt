@@ -16,8 +16,8 @@ use Rattle.sets.specs.Sets.{Good}
 use Rattle.pattern.specs.Pattern.{pattern_of}
 use Rattle.pattern.specs.Tests.{size_test, set_test, space_test}
 use Rattle.pattern.proofs.Validity.{size_fine, set_fine}
-use Rattle.numbers.specs.declared.Number.TheVariants.{Value, Fault}
 use Rattle.numbers.specs.Numbers.{encode, number_at, AreBytes}
+use Rattle.numbers.specs.Numbers.Number.{Value, Fault}
 use Rattle.numbers.specs.Format.{Format, ended, item, refused, file_reading, encode_all, Fits}
 use Rattle.numbers.specs.Faults.{Padded, TooBig, After, here, taken, through, StoppedBy, by_form, by_range, by_gate, by_tail, Stops}
 use Rattle.numbers.proofs.Groups.{one_byte}

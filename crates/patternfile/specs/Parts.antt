@@ -7,8 +7,8 @@ use Rattle.std.specs.Prelude.{ℕ, ◌*◌, List, ◌≡◌, length}
 use Rattle.verdict.specs.Verdict.{Verdict}
 use Rattle.lent.specs.Lent.{lay}
 use Rattle.pattern.specs.Pattern.{Pattern, pattern_of}
-use Rattle.numbers.specs.declared.Number.{Number}
-use Rattle.numbers.specs.declared.Number.TheVariants.{Value, Fault}
+use Rattle.numbers.specs.Numbers.{Number}
+use Rattle.numbers.specs.Numbers.Number.{Value, Fault}
 use Rattle.numbers.specs.Format.{ended, many, Reading, got, refused, reading}
 use Rattle.patternfile.specs.declared.PatternPart.{PatternPart}
 use Rattle.patternfile.specs.declared.PatternPart.TheVariants.{Whole, Stopped}

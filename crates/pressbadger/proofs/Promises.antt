@@ -20,7 +20,7 @@ use Rattle.pattern.specs.Language.{accepts, Over, SameLanguage}
 use Rattle.pattern.specs.Inclusion.{LanguageWithin}
 use Rattle.pattern.specs.Judge as Judge
 use Rattle.pattern.specs.Judge.{judged}
-use Rattle.pattern.specs.declared.Judged.{Judged}
+use Rattle.pattern.specs.Judge.{Judged}
 use Rattle.pattern.proofs.Inclusion.{union_within}
 use Rattle.pattern.proofs.Judging.{judge_honest, judge_answered, judge_lines_lem, judge_among}
 use Rattle.walk.specs.Walk.{Question, Outcome, kept_of, word_of}

@@ -3,7 +3,7 @@
 
 ghost use Rattle.std.specs.Prelude.{◌≡◌};
 ghost use Rattle.verdict.specs.Tests.{held};
-ghost use Rattle.verdict.specs.Refusals.{number};
+ghost use Rattle.verdict.specs.Refusals.{number, TestsEach};
 
 // Why a call is refused, by the scope's names and numbers.
 #[derive(Clone, Copy)]
@@ -39,6 +39,15 @@ pub struct Fault {
     pub place: usize,
 }
 
+// A refusal of the whole, which has no place of its own, stands at 0.
+impl From<Refusal> for Fault {
+    ghost from_gives = { λ why fault. fault ≡ record { why = why; place = 0 } };
+
+    fn from(why: Refusal) -> Fault {
+        Fault { why, place: 0 }
+    }
+}
+
 // A test that holds has nothing against it; one that fails is refused.
 #[tactic(auto, unfolding(crate::specs::Tests::held))]
 pub fn need<E: Drop>(holds: bool, why: E) -> Result<(), E>
@@ -48,4 +57,15 @@ pub fn need<E: Drop>(holds: bool, why: E) -> Result<(), E>
         return Ok(());
     }
     Err(why)
+}
+
+// One test of each value of a list: the first that fails refuses.
+pub fn every<T: Copy, F: Fn(T) -> Result<(), Refusal>>(values: &[T], test: F) -> Result<(), Refusal>
+    requires { F.IsAlwaysCallable test }
+    ensures { TestsEach (λ v r. F.post test v r) values.now result }
+{
+    for value in values {
+        test(*value)?;
+    }
+    Ok(())
 }

@@ -1,7 +1,7 @@
 -- `patternfile::pass_sets` judges so many sets: `Passing` follows the loop.
 use Prim.Native.Nat.{ℕ}
 use mathlib.Core.Path.{ap, ◌∙◌}
-use Rattle.numbers.specs.declared.Number.TheVariants.{Value}
+use Rattle.numbers.specs.Numbers.Number.{Value}
 use Rattle.patternfile.proofs.Passing.{passing_stopped, passing_step, passing_done}
 use Rattle.patternfile.proofs.pass_sets.Goals as goal
 
