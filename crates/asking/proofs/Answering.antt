@@ -8,20 +8,21 @@ use Rattle.verdict.specs.Verdict.Verdict.{Fine}
 use Rattle.verdict.proofs.Ordered.{apart}
 use Rattle.lent.specs.Lent.{lay}
 use Rattle.numbers.specs.Numbers.{AreBytes}
-use Rattle.patternfile.specs.declared.PatternRead.{PatternRead}
-use Rattle.patternfile.specs.declared.PatternRead.TheVariants as Read
-use Rattle.patternfile.specs.Reader.{ReadDone, ReadRefused, Reads}
+use Rattle.std.specs.Prelude.{Ok, Err}
+use Rattle.verdict.specs.declared.Fault.{Fault}
+use Rattle.verdict.specs.Refusals.{number}
+use Rattle.patternfile.specs.declared.PatternNumbers.{PatternNumbers}
+use Rattle.patternfile.specs.Reader.{with_rows, ReadDone, ReadRefused}
 use Rattle.patternfile.proofs.Contents.{accepted_valid}
 use Rattle.patternfile.proofs.RoundTrip.{left_rows}
 use Rattle.walk.specs.Walk.{Question, question_of, kept_of, word_of}
 use Rattle.walk.proofs.WalkEnds.{walk_ends}
 use Rattle.comparison.specs.declared.Answer.{Answer}
-use Rattle.comparison.specs.Answers.{number_of, Lent, compare_test, answer_of, lay_out, Compared}
+use Rattle.comparison.specs.Answers.{Answered, number_of, Lent, compare_test, answer_of, lay_out, Compared}
 use Rattle.comparison.specs.Meaning.{Roomy, Honest}
 use Rattle.comparison.proofs.Asking.{compare_fine}
 use Rattle.comparison.proofs.CompareHonest.{compare_valid, compare_honest}
-use Rattle.asking.specs.declared.Asked.{Asked}
-use Rattle.asking.specs.Asking.{row_room, Asks, Refuses, call_for, Answers}
+use Rattle.asking.specs.Asking.{Asked, row_room, Asks, Refuses, call_for, Answers}
 use Rattle.asking.specs.Asking.Answers.{refuses, answers}
 use Rattle.asking.proofs.Questions.{asks_proper, asks_or_refuses}
 
@@ -32,15 +33,14 @@ module _ {input : List ℕ} {Q : Question} (are : AreBytes input) (asks : Asks i
   never_refused = (compare_fine (call_for Q room lent)).1 (asks_proper are asks, roomy)
 
   -- so its answer is the walk's outcome
-  pub answered : {answer : Answer} {l : Lent} → Compared (call_for Q room lent) answer l → (rows : List ℕ)
-      → Answers room input rows lent (Asked.Answered answer) (lay Q.pattern.rows rows) l
-  answered (Compared.refuses against) rows = apart never_refused against
+  pub answered : {answer : Answer} {l : Lent} → Compared (call_for Q room lent) (Ok answer) l → (rows : List ℕ)
+      → Answers room input rows lent (Ok answer) (lay Q.pattern.rows rows) l
   answered (Compared.walks fine walk) rows = answers asks walk
 
 -- ---- what an answer means
 
 pub answers_honest : {room : ℕ} {input rows : List ℕ} {lent : Lent} {answer : Answer} {rows' : List ℕ} {l : Lent} → AreBytes input → Roomy room lent
-    → Answers room input rows lent (Asked.Answered answer) rows' l → (Q : Question) × Asks input Q × (number_of answer ≤ 2) × Honest (call_for Q room lent) answer l
+    → Answers room input rows lent (Ok answer) rows' l → (Q : Question) × Asks input Q × (number_of (Ok answer) ≤ 2) × Honest (call_for Q room lent) (Ok answer) l
 answers_honest {room} {lent = lent} are roomy (answers {Q} {o} a w) =
     let compared : Compared (call_for Q room lent) (answer_of o) (lay_out (kept_of o) (word_of o) lent) = Compared.walks (never_refused are a roomy) w in
     (Q, a, compare_valid (asks_proper are a, roomy) compared, compare_honest compared)
@@ -53,7 +53,7 @@ always_answered room input rows lent are = pick (asks_or_refuses input are)
     pick : ((Q : Question) × Asks input Q) ⊎ ((number : ℕ) × (place : ℕ) × Refuses input number place)
         → (a : Asked) × (rows' : List ℕ) × (l : Lent) × Answers room input rows lent a rows' l
     pick (inl (Q, a)) = let (o, w) = walk_ends Q (asks_proper are a) room in (_, _, _, answers a w)
-    pick (inr (number, place, r)) = (_, _, _, refuses r)
+    pick (inr (w, place, r)) = let (why, z) = reader_named input r in (_, _, _, refuses {fault = record { why = why; place = place }} (rw (← z) at r))
 
 -- ---- a file that was refused
 

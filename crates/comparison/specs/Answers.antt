@@ -3,7 +3,9 @@
 --   number_of, values_of   the scope's number of an answer (§7), and the numbers returned with it
 --   Lent, Call           all that the host lends; the question, the room and what is lent
 --   room_test            13 BAD-ROOM; compare_test: all refusals in the scope's order (`compare_fine` says when there is none)
---   answer_of, lay_out   the answer of an outcome; its records and its sequence laid over what is lent
+--   outcome_answer, answer_of
+--                        the answer of an outcome, and the same as a call returns it
+--   lay_out              its records and its sequence laid over what is lent
 --   Compared             what a call answers and leaves: one result for every call (`compare_determined`)
 --   question_in, lent_in, call_in
 --                        these, of the code's question and of the tables that it is lent
@@ -75,10 +77,13 @@ compare_test c =
     in_order (shape_test P ∷ room_test c.room c.lent ∷ masks_test P ∷ set_test P.states c.question.left ∷ set_test P.states c.question.right ∷ [])
 
 -- the numbers of an outcome
+abbrev pub outcome_answer : Outcome → Answer
+outcome_answer (Same kept examined) = Answer.Same (length kept) examined
+outcome_answer (Different kept examined word) = Answer.Different (length kept) examined (length word)
+outcome_answer (Full kept examined) = Answer.Full (length kept) examined
+
 abbrev pub answer_of : Outcome → Answered
-answer_of (Same kept examined) = Ok (Answer.Same (length kept) examined)
-answer_of (Different kept examined word) = Ok (Answer.Different (length kept) examined (length word))
-answer_of (Full kept examined) = Ok (Answer.Full (length kept) examined)
+answer_of o = Ok (outcome_answer o)
 
 -- the records and the sequence stand in the first places, and everything not named as written is unchanged
 abbrev pub lay_out : List Record → List ℕ → Lent → Lent
