@@ -1,17 +1,15 @@
 -- Two results that the statement allows on the same texts and rows are equal.
 use mathlib.Core.Path.{◌≡◌, refl, sym, ap, ap₂, ◌∙◌, subst}
-use mathlib.Core.Bool.{cond}
 use mathlib.Core.List.{List}
 use Prim.Native.Nat.{ℕ, ◌+◌, ◌*◌, ◌/◌, ◌%◌, ◌^◌, ◌<◌}
 use native.Mathlib.Decide.{dec_lt}
 use native.Mathlib.Omega.{arith}
-use lib.Dec.{eqb}
 use lib.ListN.{length, get_or}
 use lib.Seq.{ext_get_or}
 use Rattle.std.specs.Prelude.{Ok, Err}
 use Rattle.verdict.specs.declared.Refusal.{Refusal as Why}
-use Rattle.verdict.specs.declared.Refusal.TheVariants.{BadSize, BadTable, BadSet, BadRoom, NoRoom, BadLetter, BadList, Cut, Padded, Tail, TooBig, Syntax, TooMany, TooDeep}
 use Rattle.verdict.specs.Refusals.{number}
+use Rattle.verdict.proofs.Refusals.{one_refusal}
 use Rattle.expressions.specs.Expressions.{Expr}
 use Rattle.expressions.specs.Positions.{second, states, Together}
 use Rattle.expressions.specs.Answers.{Fine, FineSecond, WrongSecond, FirstSecond, Refusal, Built, Answer, Expressed}
@@ -22,43 +20,8 @@ use Rattle.expressions.specs.declared.TextPattern.{TextPattern}
 use Rattle.expressions.specs.declared.TextFault.{TextFault}
 use Rattle.expressions.proofs.Faults.{one_first, one_meaning}
 
--- ---- a refusal is known by its number
-
-of_number : ℕ → Why
-of_number n =
-    cond (eqb n 10) BadSize
-    (cond (eqb n 11) BadTable
-    (cond (eqb n 12) BadSet
-    (cond (eqb n 13) BadRoom
-    (cond (eqb n 14) NoRoom
-    (cond (eqb n 15) BadLetter
-    (cond (eqb n 16) BadList
-    (cond (eqb n 20) Cut
-    (cond (eqb n 21) Padded
-    (cond (eqb n 22) Tail (cond (eqb n 23) TooBig (cond (eqb n 30) Syntax (cond (eqb n 31) TooMany TooDeep))))))))))))
-
-of_number_of : (w : Why) → of_number (number w) ≡ w
-unfolding of_number
-of_number_of BadSize = refl
-of_number_of BadTable = refl
-of_number_of BadSet = refl
-of_number_of BadRoom = refl
-of_number_of NoRoom = refl
-of_number_of BadLetter = refl
-of_number_of BadList = refl
-of_number_of Cut = refl
-of_number_of Padded = refl
-of_number_of Tail = refl
-of_number_of TooBig = refl
-of_number_of Syntax = refl
-of_number_of TooMany = refl
-of_number_of TooDeep = refl
-
-number_injective : (v w : Why) → number v ≡ number w → v ≡ w
-number_injective v w e = sym (of_number_of v) ∙ ap of_number e ∙ of_number_of w
-
 same_fault : (f g : TextFault) → number f.fault.why ≡ number g.fault.why → f.fault.place ≡ g.fault.place → f.text ≡ g.text → f ≡ g
-same_fault f g a b c = alike (number_injective _ _ a) b c
+same_fault f g a b c = alike (one_refusal a) b c
   where
     alike : {v w : Why} {p q t u : ℕ} → v ≡ w → p ≡ q → t ≡ u
         → ◌≡◌ {A = TextFault} (record { fault = record { why = v; place = p }; text = t }) (record { fault = record { why = w; place = q }; text = u })

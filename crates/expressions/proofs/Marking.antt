@@ -13,7 +13,7 @@ use Rattle.expressions.specs.declared.Look.{Look}
 use Rattle.expressions.specs.declared.Piece.{Piece}
 use Rattle.expressions.specs.declared.Tables.{Tables}
 use Rattle.expressions.proofs.Passing.{passes_le}
-use Rattle.expressions.proofs.Parts.{TokenAt, Ahead, token_ahead, look_at, core_gap, core_star, core_plus, core_opt}
+use Rattle.expressions.proofs.Parts.{TokenAt, Ahead, token_ahead, mark_at, core_gap, core_star, core_plus, core_opt}
 
 -- the factor x, read as far as r, with the tables as they are now
 pub record Marking (text : List ℕ) (x : Piece) (mid now : Tables) (r : Piece) : Type 0 where
@@ -44,13 +44,13 @@ pub marks_step : (text : List ℕ) (x : Piece) (mid now after : Tables) (r : Pie
     → r.next.token ≡ Postfix m → Goes m r.first r.last now after → Peeked text r.next.past k
     → Marking text x mid after (record r { null = r.null || takes_empty m; next = k })
 marks_step text x mid now after r m k i e g p =
-    record { looks = p.looks; carry = λ at d u old c. core_gap (marked_by (i.carry at d u old c) m (look_at (Postfix m) i.looks e (λ j. cc)) g) p.gaps }
+    record { looks = p.looks; carry = λ at d u old c. core_gap (marked_by (i.carry at d u old c) m (mark_at i.looks e) g) p.gaps }
 
 pub marks_done : {text : List ℕ} {x : Piece} {mid now : Tables} {r : Piece} → Marking text x mid now r → NoMark r.next.token → Marked text x mid now r
 marks_done i f = record { onward = λ at d u old c. record { core = i.carry at d u old c; looks = i.looks; ends = f } }
 
-pub mark_ahead : {text : List ℕ} {k : Look} (m : SeenMark) → Looks text k → k.token ≡ Postfix m → Ahead text k.place k.past
-mark_ahead m k e = token_ahead (look_at (Postfix m) k e (λ j. cc))
+pub mark_ahead : {text : List ℕ} {k : Look} {m : SeenMark} → Looks text k → k.token ≡ Postfix m → Ahead text k.place k.past
+mark_ahead k e = token_ahead (mark_at k e)
 
 pub peek_le : {text : List ℕ} {at : ℕ} {k : Look} → Peeked text at k → at ≤ k.place
 peek_le g = passes_le g.gaps

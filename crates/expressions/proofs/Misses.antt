@@ -23,7 +23,7 @@ use Rattle.expressions.specs.declared.Token.{Token as Seen}
 use Rattle.expressions.specs.declared.Token.TheVariants.{Event, One, Zero, Postfix, Bar, Open, Close, End, Unknown}
 use Rattle.expressions.proofs.Faults.{scan_append}
 use Rattle.expressions.proofs.Passing.{passes_on}
-use Rattle.expressions.proofs.Parts.{TokenAt, token_passes, look_at}
+use Rattle.expressions.proofs.Parts.{TokenAt, token_passes, mark_at, bar_at, close_at, unknown_at}
 
 pub fault_on : {text : List ℕ} {at d u to d' u' number place : ℕ} {n n' : Bool} {ts : List Token} → Comes text at n d u to n' d' u' ts
     → Faults text to n' d' u' number place → Faults text at n d u number place
@@ -77,7 +77,7 @@ unclosed {text} {k} d u l e f = go k.token refl
     go Open j = absurd (true≢false (ap begins (sym j) ∙ e.1))
     go Close j = absurd (f j)
     go End j = end_here (l.end j) (inr (omega arith))
-    go Unknown j = let a = look_at Unknown l j (λ h. cc) in bad_here a.inside a.item
+    go Unknown j = let a = unknown_at l j in bad_here a.inside a.item
 
 -- nor can anything follow one that is not inside
 pub unended : {text : List ℕ} {k : Look} (u : ℕ) → Looks text k → Ends alternation k.token → (k.token ≡ End → ⊥)
@@ -91,9 +91,9 @@ unended {text} {k} u l e f = go k.token refl
     go (Postfix m) j = absurd (e.0 m j)
     go Bar j = absurd (e.2 j)
     go Open j = absurd (true≢false (ap begins (sym j) ∙ e.1))
-    go Close j = let a = look_at Close l j (λ h. cc) in stop_here a.inside a.item none_open
+    go Close j = let a = close_at l j in stop_here a.inside a.item none_open
     go End j = absurd (f j)
-    go Unknown j = let a = look_at Unknown l j (λ h. cc) in bad_here a.inside a.item
+    go Unknown j = let a = unknown_at l j in bad_here a.inside a.item
 
 -- where a factor must come, and none does
 pub no_factor : {text : List ℕ} {k : Look} (d u : ℕ) → Looks text k → begins k.token ≡ false → Here text k.place true d u 30
@@ -106,9 +106,9 @@ no_factor {text} {k} d u l e = go k.token refl
     go (Event a) j = begun (Event a) j refl
     go One j = begun One j refl
     go Zero j = begun Zero j refl
-    go (Postfix m) j = let a = look_at (Postfix m) l j (λ h. cc) in stop_here a.inside a.item no_mark
-    go Bar j = let a = look_at Bar l j (λ h. cc) in stop_here a.inside a.item no_bar
+    go (Postfix m) j = let a = mark_at l j in stop_here a.inside a.item no_mark
+    go Bar j = let a = bar_at l j in stop_here a.inside a.item no_bar
     go Open j = begun Open j refl
-    go Close j = let a = look_at Close l j (λ h. cc) in stop_here a.inside a.item no_close
+    go Close j = let a = close_at l j in stop_here a.inside a.item no_close
     go End j = end_here (l.end j) (inl refl)
-    go Unknown j = let a = look_at Unknown l j (λ h. cc) in bad_here a.inside a.item
+    go Unknown j = let a = unknown_at l j in bad_here a.inside a.item

@@ -19,13 +19,14 @@ use Rattle.expressions.specs.Grammar.Level.{alternation, sequence, factor}
 use Rattle.expressions.specs.Grammar.Reads.{lone, either, single, further, name, marked, group}
 use Rattle.expressions.specs.Grammar.Token.{leaf, mark, bar, open', close'}
 use Rattle.expressions.specs.Texts.{past_at, Passes}
-use Rattle.expressions.specs.Texts.Item.{token}
+use Rattle.expressions.specs.Texts.Item.{token, bad}
 use Rattle.expressions.specs.Texts.Passes.{here, item}
 use Rattle.expressions.specs.Scan.{Phase, turn, scan}
 use Rattle.expressions.specs.Scan.Phase.{going, halted}
-use Rattle.expressions.specs.Pieces.{item_seen, Linked, Chained, Parted, At, Looks, Core, Made}
+use Rattle.expressions.specs.Pieces.{mark_seen, item_seen, Linked, Chained, Parted, At, Looks, Core, Made}
+use Rattle.expressions.specs.declared.Mark.{Mark as SeenMark}
 use Rattle.expressions.specs.declared.Token.{Token as Seen}
-use Rattle.expressions.specs.declared.Token.TheVariants.{End}
+use Rattle.expressions.specs.declared.Token.TheVariants.{Event, One, Zero, Postfix, Bar, Open, Close, End, Unknown}
 use Rattle.expressions.specs.declared.Look.{Look}
 use Rattle.expressions.specs.declared.Piece.{Piece}
 use Rattle.expressions.specs.declared.Tables.{Tables}
@@ -52,8 +53,33 @@ token_ahead {text} {place} k =
     record { inside = k.inside; on = omega (arith, past_more text place, k.beyond); within = omega (arith, past_le text place k.inside, k.beyond) }
 
 -- what stands next, where it is known
-pub look_at : {text : List ℕ} {k : Look} (t : Seen) → Looks text k → k.token ≡ t → (t ≡ End → ⊥) → At text k.place k.past (item_seen t)
-look_at {text} {k} t l e f = subst (λ (z : Seen). At text k.place k.past (item_seen z)) e (l.stands (λ j. f (sym e ∙ j)))
+module _ {text : List ℕ} {k : Look} (l : Looks text k) where
+  look_at : (t : Seen) → k.token ≡ t → (t ≡ End → ⊥) → At text k.place k.past (item_seen t)
+  look_at t e f = subst (λ (z : Seen). At text k.place k.past (item_seen z)) e (l.stands (λ j. f (sym e ∙ j)))
+
+  pub event_at : {a : ℕ} → k.token ≡ Event a → TokenAt text k.place k.past (leaf (letter a))
+  event_at {a} e = look_at (Event a) e (λ j. cc)
+
+  pub one_at : k.token ≡ One → TokenAt text k.place k.past (leaf unit)
+  one_at e = look_at One e (λ j. cc)
+
+  pub zero_at : k.token ≡ Zero → TokenAt text k.place k.past (leaf void)
+  zero_at e = look_at Zero e (λ j. cc)
+
+  pub mark_at : {m : SeenMark} → k.token ≡ Postfix m → TokenAt text k.place k.past (mark (mark_seen m))
+  mark_at {m} e = look_at (Postfix m) e (λ j. cc)
+
+  pub bar_at : k.token ≡ Bar → TokenAt text k.place k.past bar
+  bar_at e = look_at Bar e (λ j. cc)
+
+  pub open_at : k.token ≡ Open → TokenAt text k.place k.past open'
+  open_at e = look_at Open e (λ j. cc)
+
+  pub close_at : k.token ≡ Close → TokenAt text k.place k.past close'
+  close_at e = look_at Close e (λ j. cc)
+
+  pub unknown_at : k.token ≡ Unknown → At text k.place k.past bad
+  unknown_at e = look_at Unknown e (λ j. cc)
 
 -- ---- one name
 

@@ -25,7 +25,7 @@ use Rattle.expressions.specs.declared.Piece.{Piece}
 use Rattle.expressions.specs.declared.Tables.{Tables}
 use Rattle.expressions.proofs.Passing.{passes_le, past_more}
 use Rattle.expressions.proofs.Faults.{first_fault, faultless}
-use Rattle.expressions.proofs.Parts.{TokenAt, Ahead, token_ahead, look_at, core_after, core_single, core_lone, core_further, core_either}
+use Rattle.expressions.proofs.Parts.{TokenAt, Ahead, token_ahead, bar_at, core_after, core_single, core_lone, core_further, core_either}
 use Rattle.expressions.proofs.Misses as Misses
 use Rattle.expressions.proofs.Misses.{fault_on, fault_here, gap_comes, core_comes, open_comes, bar_comes, unclosed, no_factor}
 
@@ -67,11 +67,11 @@ module _ {text : List ℕ} {at d u : ℕ} {old mid : Tables} {x : Piece} (b : Be
   alt_done f = record { core = b.core; looks = b.looks; ends = (b.ends.0, b.ends.1, f) }
 
   module _ (e : x.next.token ≡ Bar) where
-    bar_at : TokenAt text x.next.place x.next.past bar
-    bar_at = look_at Bar b.looks e (λ j. cc)
+    at_bar : TokenAt text x.next.place x.next.past bar
+    at_bar = bar_at b.looks e
 
     pub alt_ahead : Ahead text x.next.place x.next.past
-    alt_ahead = token_ahead bar_at
+    alt_ahead = token_ahead at_bar
 
     pub alt_asks : d ≤ 32 → Asks text x.next.past x.used d
     alt_asks s = record { inside = alt_ahead.within; room = b.core.room; shallow = s }
@@ -80,13 +80,13 @@ module _ {text : List ℕ} {at d u : ℕ} {old mid : Tables} {x : Piece} (b : Be
         → Begun alternation sequence text at d u old new r
     alt_step y r m p =
         record {
-          core = core_either x y r b.core bar_at m.core p;
+          core = core_either x y r b.core at_bar m.core p;
           looks = subst (Looks text) (sym p.next) m.looks;
           ends = subst (λ (k : Look). Ends sequence k.token) (sym p.next) m.ends;
         }
 
     pub alt_fault : {number place : ℕ} → Faults text x.next.past true d x.used number place → Faults text at true d u number place
-    alt_fault f = fault_on (core_comes true b.core) (fault_on (bar_comes d x.used bar_at) f)
+    alt_fault f = fault_on (core_comes true b.core) (fault_on (bar_comes d x.used at_bar) f)
 
 -- spaces, and then a factor
 pub seq_first : {text : List ℕ} {at place d u : ℕ} {old new : Tables} {x : Piece} → Passes text at [] place

@@ -11,6 +11,7 @@ ghost use Rattle.expressions.specs.Languages.{Answered};
 ghost use Rattle.expressions.specs.Both.{Judged, Crowded, finals_from, Filled};
 
 use events::put_name;
+use lent::Page;
 use verdict::{Fault, Refusal};
 
 // What a pattern may have, and how many parentheses may be open at once.
@@ -195,9 +196,14 @@ fn sign_token(b: u8) -> Token
 fn name_is(run: &[u8], letter: u8) -> bool
     ensures { result ≡ bytes_eq run.now (event_name letter) }
 {
-    let mut name: [u8; 9] = [0; 9];
-    let n = put_name(&mut name, 0, letter);
-    run == &name[..n]
+    let mut name = [0; 9];
+    let mut page = Page {
+        out: &mut name,
+        at: 0,
+    };
+    put_name(&mut page, letter);
+    let end = page.at;
+    run == &page.out[..end]
 }
 
 // The letter of an event name, or neither name nor sign.

@@ -9,6 +9,7 @@ use Prim.Native.Nat.{ℕ, zero, suc, ◌+◌, ◌*◌, ◌≤◌, ◌<◌}
 use native.Mathlib.Nat.{mul-le-mul}
 use native.Mathlib.Omega.{arith}
 use lib.ListN.{length, take, drop, length-map}
+use Rattle.std.specs.Prelude.{Ok, Err}
 use Rattle.verdict.specs.Tests.{need}
 use Rattle.verdict.specs.Lines.{Applies}
 use Rattle.verdict.proofs.Numbered.{all_from, among_need, among_from}
@@ -73,7 +74,7 @@ use Rattle.patternfile.proofs.RoundTrip.{read_after_write, write_after_read}
 use Rattle.expressions.specs.Expressions.{Expr, Takes}
 use Rattle.expressions.specs.Texts.{Means}
 use Rattle.expressions.specs.Languages.{Speaks, Answered}
-use Rattle.expressions.specs.declared.Answer as Texts
+use Rattle.expressions.specs.Answers as Texts
 use Rattle.expressions.proofs.Faults.{one_meaning}
 use Rattle.expressions.proofs.Meaning.{expressions_honest}
 use Rattle.expressions.proofs.Room.{rows_enough}
@@ -712,8 +713,8 @@ module _ (P : Pattern) (x y : ℕ) (old : List ℕ) where
 
 module _ (one two old : List ℕ) where
   expressed_means : (a : Texts.Answer) (new : List ℕ) → Answered one two old new a → ExpressedMeans one two old (expressed_answer a) new
-  expressed_means (Texts.Answer.Done n finals x y) new k =
-      let h = expressions_honest one two old (Texts.Answer.Done n finals x y) new k in
+  expressed_means (Ok p) new k =
+      let h = expressions_honest one two old (Ok p) new k in
       record {
         done = h.done;
         returned = λ e. refl;
@@ -722,8 +723,8 @@ module _ (one two old : List ℕ) where
         refused_by = λ w place text. (λ p. absurd (omega (arith, high text_refusals refl p.0)), λ p. absurd ((h.refused_by w place text).1 p).0);
         quiet = λ m. absurd (omega (arith, high text_refusals refl m));
       }
-  expressed_means (Texts.Answer.Refused number at text) new k =
-      let h = expressions_honest one two old (Texts.Answer.Refused number at text) new k in
+  expressed_means (Err f) new k =
+      let h = expressions_honest one two old (Err f) new k in
       record {
         done = h.done;
         returned = λ e. absurd (h.made e);

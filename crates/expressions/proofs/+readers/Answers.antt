@@ -8,9 +8,9 @@ use Rattle.std.proofs.Common.{rules}
 use Rattle.std.proofs.lemmas.Nat.{one_shl}
 use Rattle.std.proofs.lemmas.Result.{err_from_is_err_and}
 use Rattle.expressions.specs.declared.Look.{Look}
-use Rattle.expressions.specs.declared.Token.TheVariants.{Event, One, Zero, Bar, Open, Close}
+use Rattle.expressions.specs.declared.Token.TheVariants.{Bar, Close}
 use Rattle.expressions.proofs.Looking.{letter_below}
-use Rattle.expressions.proofs.Parts.{token_ahead, look_at, core_gap, core_letter, core_unit, core_void, core_group}
+use Rattle.expressions.proofs.Parts.{token_ahead, event_at, one_at, zero_at, open_at, close_at, core_gap, core_letter, core_unit, core_void, core_group}
 use Rattle.expressions.proofs.Marking.{peek_le}
 use Rattle.expressions.proofs.Readers.{made_later, made_more, begun_later, alt_first, alt_ahead, alt_asks, alt_step, alt_fault, seq_first, seq_step, seq_fault, head_fault, not_begins, none_fault, many_fault, deep_fault, inner_fault, close_fault}
 use Rattle.expressions.proofs.+readers.Goals as goal
@@ -50,55 +50,52 @@ alternation-loop-tables-preserved t c =
 
 pub factor-returns-then-used-ge-MOST_STATES : goal.factor-returns-then-used-ge-MOST_STATES
 factor-returns-then-used-ge-MOST_STATES t c =
-    let name = look_at (Event c.in-Event.letter) c.requires.looks c.in-Event.is (λ j. cc) in
+    let name = event_at c.requires.looks c.in-Event.is in
     λ n h. many_fault c.args.depth c.args.used name c.if-used-ge-MOST_STATES.true n
 
 pub factor-bounds-tables-from : goal.factor-bounds-tables-from
 factor-bounds-tables-from t c =
-    let name = look_at (Event c.in-Event.letter) c.requires.looks c.in-Event.is (λ j. cc) in
-    omega (arith, letter_below name)
+    omega (arith, letter_below (event_at c.requires.looks c.in-Event.is))
 
 pub factor-bounds-tables-from-in-Event : goal.factor-bounds-tables-from-in-Event
 factor-bounds-tables-from-in-Event t c =
-    let name = look_at (Event c.in-Event.letter) c.requires.looks c.in-Event.is (λ j. cc) in
-    omega (arith, letter_below name)
+    omega (arith, letter_below (event_at c.requires.looks c.in-Event.is))
 
 pub factor-peek-requires : goal.factor-peek-requires
-factor-peek-requires t c = (token_ahead (look_at (Event c.in-Event.letter) c.requires.looks c.in-Event.is (λ j. cc))).within
+factor-peek-requires t c = (token_ahead (event_at c.requires.looks c.in-Event.is)).within
 
 pub factor-peek-requires-in-One : goal.factor-peek-requires-in-One
-factor-peek-requires-in-One t c = (token_ahead (look_at One c.requires.looks c.in-One.is (λ j. cc))).within
+factor-peek-requires-in-One t c = (token_ahead (one_at c.requires.looks c.in-One.is)).within
 
 pub factor-peek-requires-in-Zero : goal.factor-peek-requires-in-Zero
-factor-peek-requires-in-Zero t c = (token_ahead (look_at Zero c.requires.looks c.in-Zero.is (λ j. cc))).within
+factor-peek-requires-in-Zero t c = (token_ahead (zero_at c.requires.looks c.in-Zero.is)).within
 
 pub factor-returns-then-depth-ge-MOST_OPEN : goal.factor-returns-then-depth-ge-MOST_OPEN
 factor-returns-then-depth-ge-MOST_OPEN t c =
-    let opens = look_at Open c.requires.looks c.in-Open.is (λ j. cc) in
+    let opens = open_at c.requires.looks c.in-Open.is in
     λ n h. deep_fault c.args.depth c.args.used opens c.if-depth-ge-MOST_OPEN.true n
 
 pub factor-alternation-requires : goal.factor-alternation-requires
 factor-alternation-requires t c =
-    let ahead = token_ahead (look_at Open c.requires.looks c.in-Open.is (λ j. cc)) in
-    let asks = c.requires.asks in
-    (omega arith, record { inside = ahead.within; room = asks.room; shallow = omega arith })
+    let ahead = token_ahead (open_at c.requires.looks c.in-Open.is) in
+    (omega arith, record { inside = ahead.within; room = c.requires.asks.room; shallow = omega arith })
 
 pub factor-returns-in_err-inner-in-Open : goal.factor-returns-in_err-inner-in-Open
 factor-returns-in_err-inner-in-Open t c =
-    let opens = look_at Open c.requires.looks c.in-Open.is (λ j. cc) in
+    let opens = open_at c.requires.looks c.in-Open.is in
     let p = err_from_is_err_and c.from_residual.result c.from_residual.ensures.1 in
     rw (p.1, p.2) (λ n h. inner_fault c.args.depth c.args.used opens c.if-depth-ge-MOST_OPEN.false c.in_err-inner-in-Open.ensures n)
 
 pub factor-returns-then-ne : goal.factor-returns-then-ne
 factor-returns-then-ne t c =
-    let opens = look_at Open c.requires.looks c.in-Open.is (λ j. cc) in
+    let opens = open_at c.requires.looks c.in-Open.is in
     let open_still : c.in_ok-inner-in-Open.inner.next.token ≡ Close → ⊥ = search rules in
     λ n h. close_fault c.args.depth c.args.used opens c.if-depth-ge-MOST_OPEN.false c.in_ok-inner-in-Open.ensures open_still n
 
 pub factor-peek-requires-in-Open : goal.factor-peek-requires-in-Open
 factor-peek-requires-in-Open t c =
     let closes : c.in_ok-inner-in-Open.inner.next.token ≡ Close = search rules in
-    (token_ahead (look_at Close c.in_ok-inner-in-Open.ensures.looks closes (λ j. cc))).within
+    (token_ahead (close_at c.in_ok-inner-in-Open.ensures.looks closes)).within
 
 pub factor-returns-in_default : goal.factor-returns-in_default
 factor-returns-in_default t c =
@@ -110,22 +107,22 @@ factor-returns t c =
     c.marks.ensures.onward c.args.next.place c.args.depth c.args.used c.args.tables.now
     (elim c.match-next.branch [
       | factor-in-Event+else-used-ge-MOST_STATES w ↦
-          let name = look_at (Event w.in-Event.letter) c.requires.looks w.in-Event.is (λ j. cc) in
+          let name = event_at c.requires.looks w.in-Event.is in
           let shift = one_shl c.args.used 64 w.if-used-ge-MOST_STATES.false in
           let names : length c.args.tables.now.named ≡ 32 = search rules in
           rw (w.tables-is, w.x-is, w.from.ensures)
           (core_gap (core_letter name (letter_below name) w.if-used-ge-MOST_STATES.false names shift) w.peek.ensures.gaps)
       | factor-in-One w ↦
-          rw (w.tables-is, w.x-is) (core_gap (core_unit (look_at One c.requires.looks w.in-One.is (λ j. cc)) c.requires.asks.room) w.peek-in-One.ensures.gaps)
+          rw (w.tables-is, w.x-is) (core_gap (core_unit (one_at c.requires.looks w.in-One.is) c.requires.asks.room) w.peek-in-One.ensures.gaps)
       | factor-in-Zero w ↦
           rw (w.tables-is, w.x-is)
-          (core_gap (core_void (look_at Zero c.requires.looks w.in-Zero.is (λ j. cc)) c.requires.asks.room) w.peek-in-Zero.ensures.gaps)
+          (core_gap (core_void (zero_at c.requires.looks w.in-Zero.is) c.requires.asks.room) w.peek-in-Zero.ensures.gaps)
       | factor-in-Open+else-depth-ge-MOST_OPEN+in_ok-inner-in-Open+else-ne w ↦
-          let opens = look_at Open c.requires.looks w.in-Open.is (λ j. cc) in
+          let opens = open_at c.requires.looks w.in-Open.is in
           let inner = w.in_ok-inner-in-Open.ensures in
           let closes : w.in_ok-inner-in-Open.inner.next.token ≡ Close = search rules in
           rw (w.tables-is, w.x-is)
-          (core_gap (core_group opens w.if-depth-ge-MOST_OPEN.false inner (look_at Close inner.looks closes (λ j. cc))) w.peek-in-Open.ensures.gaps)
+          (core_gap (core_group opens w.if-depth-ge-MOST_OPEN.false inner (close_at inner.looks closes)) w.peek-in-Open.ensures.gaps)
     ])
 
 -- ---- factors, one after the other

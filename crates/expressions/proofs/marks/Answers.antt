@@ -10,11 +10,11 @@ pub loop-x-init : goal.loop-x-init
 loop-x-init c = marks_first c.args.text.now c.args.x c.args.tables.now c.requires
 
 pub peek-x-requires : goal.peek-x-requires
-peek-x-requires c = (mark_ahead c.in-Postfix.mark c.loop-x.invariant.looks c.in-Postfix.is).within
+peek-x-requires c = (mark_ahead c.loop-x.invariant.looks c.in-Postfix.is).within
 
 pub loop-x-smaller : goal.loop-x-smaller
 loop-x-smaller c =
-    let ahead = mark_ahead c.in-Postfix.mark c.loop-x.invariant.looks c.in-Postfix.is in
+    let ahead = mark_ahead c.loop-x.invariant.looks c.in-Postfix.is in
     omega (arith, peek_le c.peek-x.ensures, c.peek-x.ensures.looks.inside)
 
 pub loop-x-preserved : goal.loop-x-preserved
