@@ -12,11 +12,11 @@ use Rattle.verdict.specs.Verdict.Verdict.{Fine, Against}
 use Rattle.verdict.specs.Tests.{need, in_order, each, Among}
 use Rattle.verdict.specs.Lines.{NoneApplies, GoesBy}
 use Rattle.verdict.specs.Lines.Lines.{none, line}
-use Rattle.verdict.proofs.Ordered.{need_holds, need_fine, order_fine, order_stop, order_next, order_last}
+use Rattle.verdict.proofs.Ordered.{need_holds, need_fine, order_fine, order_next}
 use Rattle.verdict.proofs.Numbered.{among_need, among_each, among_from}
 use Rattle.verdict.proofs.Lines.{one_line, no_lines, lines_then, same_number, lines_among}
 use Rattle.sets.specs.Rooms.{max_room}
-use Rattle.pattern.specs.Tests.{set_test, shape_test, masks_test}
+use Rattle.pattern.specs.Tests.{set_test}
 use Rattle.pattern.specs.Refusals.{shape_lines}
 use Rattle.pattern.proofs.Refusals.{set_line, masks_line, shape_lines_lem}
 use Rattle.walk.specs.Walk.{Question}

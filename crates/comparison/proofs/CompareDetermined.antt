@@ -7,7 +7,6 @@ use Rattle.sets.specs.Rooms.{default_room}
 use Rattle.walk.specs.Walk.{Question, Outcome, kept_of, word_of}
 use Rattle.comparison.specs.Answers.{Answered, Lent, Call, answer_of, lay_out, Compared}
 use Rattle.comparison.specs.Answers.Compared.{refuses, walks}
-use Rattle.comparison.specs.declared.Answer.{Answer}
 use Rattle.walk.proofs.WalkUnique.{walk_unique}
 
 pub compare_determined : {c : Call} {a a' : Answered} {l l' : Lent} → Compared c a l → Compared c a' l' → (a ≡ a') × (l ≡ l')

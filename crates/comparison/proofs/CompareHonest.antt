@@ -25,7 +25,6 @@ use Rattle.walk.proofs.FullExactly.{full_exactly}
 use Rattle.comparison.specs.Answers.{Answered, number_of, Lent, Call, compare_test, answer_of, lay_out, Compared}
 use Rattle.comparison.specs.Answers.Compared.{refuses, walks}
 use Rattle.comparison.specs.Meaning.{IsRefused, Comparable, compare_lines, Honest, Quiet}
-use Rattle.comparison.specs.declared.Answer.{Answer}
 use Rattle.comparison.proofs.Asking.{compare_fine, compare_lines_lem, compare_among, refusal_number}
 
 low : (o : Outcome) → number_of (answer_of o) ≤ 2

@@ -8,7 +8,6 @@ use native.Mathlib.Decide.{dec_lt}
 use native.Mathlib.Omega.{arith}
 use lib.ListN.{length, get_or, take, length-map}
 use lib.Seq.{length-take-le}
-use Rattle.verdict.specs.declared.Refusal.{Refusal}
 use Rattle.verdict.proofs.Ordered.{apart}
 use Rattle.lent.proofs.Laying.{take_lay_less, get_d_lay}
 use Rattle.pattern.specs.Pattern.{Sized}

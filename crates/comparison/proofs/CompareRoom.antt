@@ -13,7 +13,6 @@ use Rattle.walk.specs.Meaning.{Settled, Covers}
 use Rattle.comparison.specs.Answers.{Answered, number_of, values_of, Lent, Call, answer_of, lay_out, Compared}
 use Rattle.comparison.specs.Answers.Compared.{refuses, walks}
 use Rattle.comparison.specs.Meaning.{Roomy, SameWritten}
-use Rattle.comparison.specs.declared.Answer.{Answer}
 use Rattle.comparison.proofs.Standing.{firsts_laid}
 use Rattle.comparison.proofs.Asking.{compare_fine, refusal_number}
 use Rattle.walk.proofs.WalkUnique.{walk_unique}

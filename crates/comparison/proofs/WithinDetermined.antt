@@ -1,9 +1,8 @@
 -- `within_determined`: two results that the contract of `within` allows on the same input are equal: the answer, its numbers, and all that was lent.
 -- Assumes nothing.
 use mathlib.Core.Path.{◌≡◌, sym, ap, ◌∙◌}
-use Rattle.comparison.specs.Answers.{Answered, Lent, Call}
-use Rattle.comparison.specs.Inclusion.{AnsweredOneWay, one_way, Included}
-use Rattle.comparison.specs.declared.inclusion.Inclusion.{Inclusion}
+use Rattle.comparison.specs.Answers.{Lent, Call}
+use Rattle.comparison.specs.Inclusion.{AnsweredOneWay, answered_one_way, Included}
 use Rattle.comparison.proofs.CompareDetermined.{compare_determined}
 use Rattle.comparison.proofs.Joining.{included_compared}
 
@@ -12,4 +11,4 @@ within_determined j k =
     let (b, p, e) = included_compared j in
     let (b', p', e') = included_compared k in
     let (same, left) = compare_determined p p' in
-    (e ∙ ap one_way same ∙ sym e', left)
+    (e ∙ ap answered_one_way same ∙ sym e', left)

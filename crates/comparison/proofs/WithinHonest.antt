@@ -9,18 +9,16 @@ use Rattle.walk.proofs.Inclusion.{tells_escapes}
 use Rattle.comparison.specs.Answers as Comparison
 use Rattle.comparison.specs.Answers.{Answered, Lent, Call, Compared}
 use Rattle.comparison.specs.Meaning.{Comparable}
-use Rattle.comparison.specs.Inclusion.{AnsweredOneWay, number_of, one_way, Included}
+use Rattle.comparison.specs.Inclusion.{AnsweredOneWay, number_of, answered_one_way, Included}
 use Rattle.comparison.specs.Inclusion.Included.{refuses, walks}
 use Rattle.comparison.specs.InclusionMeaning.{IsRefused, HonestInclusion, QuietInclusion}
-use Rattle.comparison.specs.declared.Answer.{Answer}
-use Rattle.comparison.specs.declared.inclusion.Inclusion.{Inclusion}
 use Rattle.comparison.proofs.Asking.{compare_fine}
 use Rattle.comparison.proofs.CompareHonest.{compare_valid, compare_honest, compare_answers}
 use Rattle.comparison.proofs.Joining.{joined_call, comparable_joined, lines_joined, included_compared, compared_included, values_joined, refused_joined, number_refused, within_joined, not_within_joined, full_joined}
 
 -- by what the comparison of X+Y with Y answers
 module _ {c : Call} (b : Answered) {later : Lent} (k : Compared (joined_call c) b later) where
-  honest : HonestInclusion c (one_way b) later
+  honest : HonestInclusion c (answered_one_way b) later
   honest =
       let h = compare_honest k in
       let is = refused_joined b in
@@ -57,7 +55,7 @@ within_valid {c} {later = later} p k =
     rw e (pick b q (Comparison.number_of b) refl (compare_valid ((comparable_joined c).0 p) q))
   where
     pick : (b : Answered) → Compared (joined_call c) b later → (n : ℕ) → Comparison.number_of b ≡ n → n ≤ 2
-        → (number_of (one_way b) ≡ 8) ⊎ (number_of (one_way b) ≡ 9) ⊎ (number_of (one_way b) ≡ 2)
+        → (number_of (answered_one_way b) ≡ 8) ⊎ (number_of (answered_one_way b) ≡ 9) ⊎ (number_of (answered_one_way b) ≡ 2)
     pick b q zero z l = inl ((within_joined b (compare_honest q).high).1 z)
     pick b q (suc zero) z l = inr (inl ((not_within_joined b (compare_honest q).high).1 z))
     pick b q (suc (suc zero)) z l = inr (inr ((full_joined b (compare_honest q).high).1 z))
@@ -70,4 +68,4 @@ within_quiet {c} (walks {o} f w) i = absurd ((within_honest (walks {o = o} f w))
 
 -- every call has a result
 pub within_answers : (c : Call) → (a : AnsweredOneWay) × (later : Lent) × Included c a later
-within_answers c = let (b, later, k) = compare_answers (joined_call c) in (one_way b, later, compared_included k)
+within_answers c = let (b, later, k) = compare_answers (joined_call c) in (answered_one_way b, later, compared_included k)

@@ -12,9 +12,7 @@ use Rattle.walk.specs.Inclusion.{joined}
 use Rattle.comparison.specs.Answers as Comparison
 use Rattle.comparison.specs.Answers.{Answered, Values, Lent, Call, answer_of, Compared}
 use Rattle.comparison.specs.Meaning.{Roomy, SameWritten}
-use Rattle.comparison.specs.Inclusion.{AnsweredOneWay, number_of, values_of, one_way, Included}
-use Rattle.comparison.specs.declared.Answer.{Answer}
-use Rattle.comparison.specs.declared.inclusion.Inclusion.{Inclusion}
+use Rattle.comparison.specs.Inclusion.{AnsweredOneWay, number_of, values_of, answered_one_way, Included}
 use Rattle.comparison.proofs.CompareHonest.{compare_honest}
 use Rattle.comparison.proofs.CompareRoom.{compare_more_room, compare_room_enough, compare_never_full}
 use Rattle.comparison.proofs.Joining.{joined_call, included_compared, values_joined, within_joined, not_within_joined, full_joined}
@@ -29,9 +27,9 @@ within_more_room {a = a} {b} {l} {m} le r j k s =
     let (u, p, e) = included_compared j in
     let (v, q, f) = included_compared k in
     let (same, written) = compare_more_room le r p q (settled _ u p (rw e at s)) in
-    (e ∙ ap one_way same ∙ sym f, rw (e, values_joined u) written)
+    (e ∙ ap answered_one_way same ∙ sym f, rw (e, values_joined u) written)
   where
-    settled : (c : Call) {later : Lent} (u : Answered) → Compared (joined_call c) u later → (number_of (one_way u) ≡ 8) ⊎ (number_of (one_way u) ≡ 9) → Comparison.number_of u ≤ 1
+    settled : (c : Call) {later : Lent} (u : Answered) → Compared (joined_call c) u later → (number_of (answered_one_way u) ≡ 8) ⊎ (number_of (answered_one_way u) ≡ 9) → Comparison.number_of u ≤ 1
     settled c u p (inl z) = omega (arith, (within_joined u (compare_honest p).high).0 z)
     settled c u p (inr z) = omega (arith, (not_within_joined u (compare_honest p).high).0 z)
 

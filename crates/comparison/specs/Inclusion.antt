@@ -1,7 +1,7 @@
 -- What the one-way question answers, and what it leaves in all that it is lent. What it is asked and lent is a comparison's `Call`.
 --   number_of, values_of   the scope's number of an answer (§7), and the numbers returned with it
 --   AnsweredOneWay         what a call returns: an answer, or a refusal
---   inclusion_of, one_way  the answer, by that of the comparison of X+Y with Y
+--   inclusion_of, answered_one_way  the answer, by that of the comparison of X+Y with Y
 --   Included               what a call answers and leaves: one result for every call (`within_determined`)
 --   Includes               the same, of the code's question and tables, which are of the same slices
 use Rattle.std.specs.Prelude.{◌≡◌, ℕ, Result, Ok, Err}
@@ -41,15 +41,15 @@ inclusion_of (Answer.Different kept examined length) = Inclusion.NotWithin kept 
 inclusion_of (Answer.Full kept examined) = Inclusion.Full kept examined
 
 -- the same of what a comparison returns: a refusal stays
-abbrev pub one_way : Answered → AnsweredOneWay
-one_way (Ok answer) = Ok (inclusion_of answer)
-one_way (Err why) = Err why
+abbrev pub answered_one_way : Answered → AnsweredOneWay
+answered_one_way (Ok answer) = Ok (inclusion_of answer)
+answered_one_way (Err why) = Err why
 
 -- a refusal is the comparison's, of X and Y as given, and changes nothing that is lent; any other answer is the outcome of the walk of X+Y and Y
 pub data Included (c : Call) : AnsweredOneWay → Lent → Type 0 where
   refuses : {why : Refusal} → compare_test c ≡ Against (number why) → Included c (Err why) c.lent
   walks : {o : Outcome} → compare_test c ≡ Fine → Walk (joined c.question) c.room o
-      → Included c (one_way (answer_of o)) (lay_out (kept_of o) (word_of o) c.lent)
+      → Included c (answered_one_way (answer_of o)) (lay_out (kept_of o) (word_of o) c.lent)
 
 pub record Includes (q : Asked) (room : ℕ) (old : Tables) (answer : AnsweredOneWay) (new : Tables) : Type 0 where
   pub included : Included (call_in q room old) answer (lent_in new)

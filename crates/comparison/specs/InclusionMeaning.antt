@@ -8,7 +8,7 @@ use Rattle.verdict.specs.Lines.{Applies}
 use Rattle.pattern.specs.Inclusion.{LanguageWithin, Escapes}
 use Rattle.walk.specs.Meaning.{Outgrows}
 use Rattle.walk.specs.Inclusion.{joined}
-use Rattle.comparison.specs.Answers.{Answered, Lent, Call, compare_test}
+use Rattle.comparison.specs.Answers.{Lent, Call, compare_test}
 use Rattle.comparison.specs.Meaning.{Comparable, compare_lines}
 use Rattle.comparison.specs.Inclusion.{AnsweredOneWay, number_of, values_of}
 use Rattle.comparison.specs.declared.inclusion.Inclusion.{Inclusion}

@@ -5,7 +5,6 @@ use Rattle.walk.specs.Known.{Row}
 use Rattle.walk.specs.Known.Row.{asks, closes}
 use Rattle.comparison.specs.Answers.{Answered, Lent, answer_of, lay_out, Compared}
 use Rattle.comparison.specs.Meaning.{Roomy}
-use Rattle.comparison.specs.declared.Answer.{Answer}
 
 -- answer, values and memory, whatever is lent for the room
 pub record Gives (Q : Question) (room : ℕ) (o : Outcome) : Type 0 where

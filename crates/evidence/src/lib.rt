@@ -1,8 +1,7 @@
 // Evidence: the check of a list of pairs that somebody else offers.
 #![tactic(auto)]
 
-ghost use Rattle.std.specs.Prelude.{◌≡◌};
-ghost use Rattle.verdict.specs.Tests.{Decides};
+ghost use Rattle.std.specs.Prelude.{◌≡◌, ◌↔◌, IsTrue};
 ghost use Rattle.verdict.specs.Refusals.{said};
 ghost use Rattle.pattern.specs.Lent.{pattern_in};
 ghost use Rattle.evidence.specs.Evidence.{list_test, Holds, ByPairs};
@@ -42,7 +41,7 @@ fn list_test(lefts: usize, rights: usize) -> Result<(), Refusal>
 
 // Whether the pair (a, b) agrees on the empty sequence and has successors congruent by the list.
 fn holds(pattern: &Shaped, pairs: &Pairs, a: u64, b: u64) -> bool
-    ensures { Decides (Holds (pattern_in pattern.now.pattern) pairs.now.lefts.now pairs.now.rights.now a b) result }
+    ensures { IsTrue result ↔ Holds (pattern_in pattern.now.pattern) pairs.now.lefts.now pairs.now.rights.now a b }
 {
     let Pattern {
         letters, finals, ..

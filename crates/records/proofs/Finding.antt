@@ -22,10 +22,9 @@ use Rattle.walk.proofs.Columns.{value_by, record_path, fit_at, fit_by}
 use Rattle.walk.specs.Meaning.{Settled}
 use Rattle.walk.proofs.Counts.{counts}
 use Rattle.walk.proofs.MoreRoom.{more_room}
-use Rattle.comparison.specs.Answers.{number_of, Lent, Call, room_test, compare_test, answer_of, Compared}
+use Rattle.comparison.specs.Answers.{Answered, number_of, Lent, Call, room_test, compare_test, answer_of, Compared}
 use Rattle.comparison.specs.Answers.Compared.{refuses, walks}
 use Rattle.comparison.specs.Meaning.{Roomy}
-use Rattle.comparison.specs.declared.Answer.{Answer}
 use Rattle.comparison.proofs.Asking.{room_fine, compare_fine, refusal_number}
 use Rattle.comparison.proofs.Standing.{laid}
 use Rattle.comparison.proofs.CompareRoom.{kept_is}
@@ -175,7 +174,7 @@ module _ (Q : Question) (room places : ℕ) (records : List PbRecord) (asks : �
       cases (yes p) = rw (ask.whole g p) at w
       cases (no p) = more_room room (asked_most g).1 (settled_else o (n (omega (arith, p)))) w
 
-  found : {a : Answer} {l : Lent} → Compared inner a l → Found Q room places records sequence (compare_answer a) l
+  found : {a : Answered} {l : Lent} → Compared inner a l → Found Q room places records sequence (compare_answer a) l
   found (refuses e) =
       record {
         most = omega arith;
@@ -199,7 +198,7 @@ module _ (Q : Question) (room places : ℕ) (records : List PbRecord) (asks : �
       }
 
 -- the same, by the answer as a host reads it
-pub finding : {Q : Question} {room places : ℕ} {records : List PbRecord} {asks : ℕ} {sequence : List ℕ} {a : Answer} {l : Lent} {k : PbCompared} → k ≡ compare_answer a
+pub finding : {Q : Question} {room places : ℕ} {records : List PbRecord} {asks : ℕ} {sequence : List ℕ} {a : Answered} {l : Lent} {k : PbCompared} → k ≡ compare_answer a
     → Compared (record { question = Q; room = asks; lent = own places sequence }) a l → Asked room places (length records) (length sequence) asks
     → Found Q room places records sequence k l
 finding e z ask = rw e (found _ _ _ _ _ _ ask z)

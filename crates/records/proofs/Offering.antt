@@ -19,9 +19,8 @@ use Rattle.walk.proofs.Sound.{Reached, Sound, walk_sound}
 use Rattle.walk.proofs.SameMeansSame.{same_progress}
 use Rattle.walk.proofs.Counts.{counts}
 use Rattle.comparison.specs.Answers as Comparison
-use Rattle.comparison.specs.Answers.{values_of, Lent, Call, Compared}
+use Rattle.comparison.specs.Answers.{Answered, values_of, Lent, Call, Compared}
 use Rattle.comparison.specs.Answers.Compared.{refuses, walks}
-use Rattle.comparison.specs.declared.Answer as Comparison'
 use Rattle.comparison.proofs.Asking.{compare_fine, refusal_number}
 use Rattle.comparison.proofs.Standing.{firsts_laid}
 use Rattle.evidence.specs.Evidence.{ValidOffer, Checked}
@@ -78,7 +77,7 @@ module _ {Q : Question} (proper : Proper Q) {room : ℕ} (most : room ≤ max_ro
 -- ---- the calls
 
 -- where `compare` answered SAME, `check` answers PROVED to the first `kept` places of what it was lent
-pub compare_same_is_proved : {c : Call} {a : Comparison'.Answer} {later : Lent} {b : Answer} → Compared c a later → Comparison.number_of a ≡ 0
+pub compare_same_is_proved : {c : Call} {a : Answered} {later : Lent} {b : Answer} → Compared c a later → Comparison.number_of a ≡ 0
     → Checked (offer_for c.question (firsts (values_of a).kept later.columns)) b → b ≡ Proved
 compare_same_is_proved {c} (refuses e) z k = absurd (omega (arith, refusal_number c e, z))
 compare_same_is_proved {c} {b = b} (walks {o = Same kept e} f w) z k =

@@ -15,7 +15,7 @@ use Rattle.walk.specs.Walk.{Question, Record, Outcome, kept_of, word_of, Walk}
 use Rattle.walk.specs.Columns.{Field, value, Columns, columns_by}
 use Rattle.walk.specs.Inclusion.{joined}
 use Rattle.comparison.specs.Answers.{Lent, Call, compare_test, answer_of}
-use Rattle.comparison.specs.Inclusion.{one_way}
+use Rattle.comparison.specs.Inclusion.{answered_one_way}
 use Rattle.records.specs.declared.PbRecord.{PbRecord}
 use Rattle.records.specs.declared.answers.PbCompared.{PbCompared}
 use Rattle.records.specs.Answers.{compare_answer, inclusion_answer}
@@ -53,4 +53,4 @@ pub data IncludedRecords (Q : Question) (room : ℕ) (records : List PbRecord) (
   refuses : {why : Refusal} → compare_test (call_on Q room records sequence) ≡ Against (number why)
       → IncludedRecords Q room records sequence (inclusion_answer (Err why)) records sequence
   walks : {o : Outcome} → compare_test (call_on Q room records sequence) ≡ Fine → Walk (joined Q) room o
-      → IncludedRecords Q room records sequence (inclusion_answer (one_way (answer_of o))) (lay_records (kept_of o) records) (lay (word_of o) sequence)
+      → IncludedRecords Q room records sequence (inclusion_answer (answered_one_way (answer_of o))) (lay_records (kept_of o) records) (lay (word_of o) sequence)

@@ -2,7 +2,8 @@
 use mathlib.Core.Path.{◌≡◌, refl, sym, ap, ◌∙◌}
 use mathlib.Core.Bool.{Bool, true, false, ◌&&◌, and-eq-true_iff}
 use mathlib.Core.List.{List, [], ◌∷◌, Memᴰ}
-use Prim.Native.Nat.{ℕ, ◌-◌}
+use Prim.Native.Nat.{ℕ, ◌-◌, ◌≤◌}
+use native.Mathlib.Omega.{arith}
 use lib.ListN.{get_or}
 use lib.Dec.{eqb}
 use borrow.Author.Tests.{eqb-true}
@@ -67,3 +68,20 @@ pub has_name : {w : ℕ} (numbers : List ℕ) → all_named numbers ≡ true →
 has_name [] e m = elim m [ ]
 has_name {w} (x ∷ numbers) e (Memᴰ.head d) = (named x, eqb-true _ _ ((and-eq-true_iff _ _).0 e).0 ∙ sym d)
 has_name (x ∷ numbers) e (Memᴰ.tail m) = has_name numbers ((and-eq-true_iff _ _).0 e).1 m
+
+-- no answer has the number of a refusal
+pub number_high : (why : Refusal) → 10 ≤ number why
+number_high BadSize = omega arith
+number_high BadTable = omega arith
+number_high BadSet = omega arith
+number_high BadRoom = omega arith
+number_high NoRoom = omega arith
+number_high BadLetter = omega arith
+number_high BadList = omega arith
+number_high Cut = omega arith
+number_high Padded = omega arith
+number_high Tail = omega arith
+number_high TooBig = omega arith
+number_high Syntax = omega arith
+number_high TooMany = omega arith
+number_high TooDeep = omega arith

@@ -1,7 +1,6 @@
 -- `comparison::spell` writes the path of a record and one letter more.
-use Rattle.std.proofs.Common.{◌≡◌, refl, sym, ap, ◌∙◌, ◌<◌, length, length-set, take, rules, arith}
+use Rattle.std.proofs.Common.{refl, ap, ◌∙◌, ◌<◌, length, length-set, rules, arith}
 use Rattle.walk.specs.Columns.{Columns}
-use Rattle.comparison.specs.Answers.{lent_in}
 use Rattle.comparison.proofs.Spelling.{short_of, shown_at, climbing_first, climbing_step, climbing_below, climbing_done, at_positive, writing_first, writing_below, writing_step, writing_done}
 use Rattle.comparison.proofs.spell.Goals as goal
 
