@@ -1,5 +1,5 @@
 -- What reading a pattern file answers, and what it leaves in the row buffer lent.
---   with_rows f rows          the pattern of the numbers f with these rows
+--   with_rows f rows          the pattern of the numbers f with these rows; found_in P x y: the numbers of a pattern with X and Y
 --   FileOf room bytes P x y   the bytes are the file of the pattern P with the sets X and Y (`accepted_valid`, `file_of`)
 --   Reads bytes old r new     the reader's promise: the answer r, and the buffer `new` where it was `old`; nothing is left open
 --                             (`reader_determined`), what is accepted is valid (`read_valid`), and a refusal stands where the scope says (`refusal_place`)
@@ -16,6 +16,10 @@ use Rattle.patternfile.specs.PatternFile.{numbers_of, pattern_format}
 
 abbrev pub with_rows : PatternNumbers → List ℕ → Pattern
 with_rows f rows = pattern_of f.states f.letters f.finals rows
+
+-- the numbers of a pattern with two sets
+abbrev pub found_in : Pattern → ℕ → ℕ → PatternNumbers
+found_in P x y = record { states = P.states; letters = P.letters; finals = P.finals; x = x; y = y }
 
 pub record FileOf (room : ℕ) (bytes : List ℕ) (P : Pattern) (x y : ℕ) : Type 0 where
   pub tabled : length P.rows ≡ P.states * P.letters

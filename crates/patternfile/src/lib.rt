@@ -68,15 +68,14 @@ pub fn judge(bytes: &[u8], room: usize) -> Result<PatternPart, Fault>
     let states = n.value as usize;
     let letters = k.value as usize;
     let count = states * letters;
-    let at_finals = k.next;
     need(
         count <= room,
         Fault {
             why: Refusal::NoRoom,
-            place: at_finals,
+            place: k.next,
         },
     )?;
-    let finals = read_set(bytes, at_finals, states)?;
+    let finals = read_set(bytes, k.next, states)?;
     let at_x = pass_sets(bytes, finals.next, states, count)?;
     let x = read_set(bytes, at_x, states)?;
     let y = read_set(bytes, x.next, states)?;
@@ -110,17 +109,15 @@ pub fn fill(bytes: &[u8], at: usize, rows: &mut [u64])
 pub fn read(bytes: &[u8], rows: &mut [u64]) -> Result<PatternNumbers, Fault>
     ensures { Reads bytes.now rows.old result rows.new }
 {
-    let PatternPart {
-        numbers: found,
-        end,
-    } = judge(bytes, rows.len())?;
+    let part = judge(bytes, rows.len())?;
     need(
-        bytes.len() <= end,
+        bytes.len() <= part.end,
         Fault {
             why: Refusal::Tail,
-            place: end,
+            place: part.end,
         },
     )?;
+    let found = part.numbers;
     let at = 2 + numbers::size(found.finals);
     fill(bytes, at, &mut rows[..found.states * found.letters]);
     Ok(found)
@@ -131,9 +128,14 @@ pub fn file_size(question: &Question) -> usize
     ensures { result ≡ length (file_bytes (pattern_in question.now.pattern) question.now.x question.now.y) }
 {
     let pattern = &question.pattern;
-    let head = [pattern.states as u64, pattern.letters as u64, pattern.finals];
-    let starts = [question.x, question.y];
-    numbers::size_all(&head) + numbers::size_all(pattern.rows) + numbers::size_all(&starts)
+    let head = [
+        pattern.states as u64,
+        pattern.letters as u64,
+        pattern.finals,
+    ];
+    numbers::size_all(&head)
+        + numbers::size_all(pattern.rows)
+        + numbers::size_all(&[question.x, question.y])
 }
 
 // The writer's tests in their order, for a byte buffer of so many bytes.
@@ -153,11 +155,14 @@ pub fn put_pattern(page: &mut Page, question: &Question)
     ensures { Puts page.old (file_bytes (pattern_in question.now.pattern) question.now.x question.now.y) page.new }
 {
     let pattern = &question.pattern;
-    let head = [pattern.states as u64, pattern.letters as u64, pattern.finals];
-    let starts = [question.x, question.y];
+    let head = [
+        pattern.states as u64,
+        pattern.letters as u64,
+        pattern.finals,
+    ];
     numbers::write_all(page, &head);
     numbers::write_all(page, pattern.rows);
-    numbers::write_all(page, &starts);
+    numbers::write_all(page, &[question.x, question.y]);
 }
 
 // Writes a pattern file, and returns how many bytes.
