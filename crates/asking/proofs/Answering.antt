@@ -1,6 +1,6 @@
 -- From what the reader and the comparison ensure to what is answered: a file that was read is never refused by the comparison. Assumes nothing.
 use mathlib.Core.Logic.{◌⊎◌, inl, inr}
-use mathlib.Core.Path.{◌≡◌, sym, subst}
+use mathlib.Core.Path.{◌≡◌, refl, sym, subst}
 use mathlib.Core.List.{List}
 use Prim.Native.Nat.{ℕ, ◌*◌, ◌≤◌}
 use lib.ListN.{length, take}
@@ -10,16 +10,20 @@ use Rattle.lent.specs.Lent.{lay}
 use Rattle.numbers.specs.Numbers.{AreBytes}
 use Rattle.std.specs.Prelude.{Ok, Err}
 use Rattle.verdict.specs.declared.Refusal.{Refusal}
+use Rattle.verdict.specs.declared.Refusal.TheVariants.{BadSize, BadSet, NoRoom, Cut, Padded, Tail, TooBig}
 use Rattle.verdict.specs.declared.Fault.{Fault}
 use Rattle.verdict.specs.Refusals.{number}
 use Rattle.patternfile.specs.declared.PatternNumbers.{PatternNumbers}
 use Rattle.patternfile.specs.Reader.{ReadDone, ReadRefused}
+use Rattle.patternfile.specs.Refusals.{RefusedAt}
+use Rattle.patternfile.specs.Refusals.RefusedAt.{bad_states, bad_letters, no_room, bad_set, cut, padded, tail, too_big}
+use Rattle.patternfile.proofs.Places.{refused_there}
 use Rattle.patternfile.proofs.Contents.{accepted_valid}
 use Rattle.patternfile.proofs.RoundTrip.{left_rows}
 use Rattle.walk.specs.Walk.{Question, question_of, kept_of, word_of}
 use Rattle.walk.proofs.WalkEnds.{walk_ends}
 use Rattle.comparison.specs.declared.Answer.{Answer}
-use Rattle.comparison.specs.Answers.{Answered, number_of, Lent, compare_test, answer_of, lay_out, Compared}
+use Rattle.comparison.specs.Answers.{number_of, Lent, compare_test, answer_of, lay_out, Compared}
 use Rattle.comparison.specs.Meaning.{Roomy, Honest}
 use Rattle.comparison.proofs.Asking.{compare_fine}
 use Rattle.comparison.proofs.CompareHonest.{compare_valid, compare_honest}
@@ -48,13 +52,24 @@ answers_honest {room} {lent = lent} are roomy (answers {Q} {o} a w) =
 
 -- ---- every input has its answer
 
+-- the code names the refusal of every input that is refused
+refusal_named : {room : ℕ} {s : List ℕ} {w place : ℕ} → RefusedAt room s w place → (why : Refusal) × (number why ≡ w)
+refusal_named (bad_states q h) = (BadSize, refl)
+refusal_named (bad_letters q h) = (BadSize, refl)
+refusal_named (no_room p q h) = (NoRoom, refl)
+refusal_named (bad_set p q h) = (BadSet, refl)
+refusal_named (cut h) = (Cut, refl)
+refusal_named (padded h) = (Padded, refl)
+refusal_named (tail P x y l f) = (Tail, refl)
+refusal_named (too_big h) = (TooBig, refl)
+
 pub always_answered : (room : ℕ) (input rows : List ℕ) (lent : Lent) → AreBytes input → (a : Asked) × (rows' : List ℕ) × (l : Lent) × Answers room input rows lent a rows' l
 always_answered room input rows lent are = pick (asks_or_refuses input are)
   where
     pick : ((Q : Question) × Asks input Q) ⊎ ((number : ℕ) × (place : ℕ) × Refuses input number place)
         → (a : Asked) × (rows' : List ℕ) × (l : Lent) × Answers room input rows lent a rows' l
     pick (inl (Q, a)) = let (o, w) = walk_ends Q (asks_proper are a) room in (_, _, _, answers a w)
-    pick (inr (w, place, r)) = let (why, z) = reader_named input r in (_, _, _, refuses {fault = record { why = why; place = place }} (rw (← z) at r))
+    pick (inr (w, place, r)) = let (why, z) = refusal_named (refused_there are r) in (_, _, _, refuses {fault = record { why = why; place = place }} (rw (← z) at r))
 
 -- ---- a file that was refused
 

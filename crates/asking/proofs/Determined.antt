@@ -6,7 +6,6 @@ use Rattle.walk.specs.Walk.{Question, Outcome, kept_of, word_of, Walk}
 use Rattle.walk.proofs.WalkUnique.{walk_unique}
 use Rattle.std.specs.Prelude.{Ok, Err}
 use Rattle.verdict.specs.declared.Fault.{Fault}
-use Rattle.verdict.specs.Refusals.{number}
 use Rattle.verdict.proofs.Refusals as Named
 use Rattle.comparison.specs.Answers.{Lent, outcome_answer, lay_out}
 use Rattle.asking.specs.Asking.{Asked, Asks, Answers}
