@@ -6,9 +6,8 @@ use Rattle.verdict.specs.Verdict.{Verdict}
 use Rattle.verdict.specs.Verdict.Verdict.{Fine, Against}
 use Rattle.sets.specs.Rooms.{max_room}
 use Rattle.pattern.specs.Tests.{set_test}
-use Rattle.numbers.specs.declared.Number.{Number}
-use Rattle.numbers.specs.declared.Number.TheVariants.{Value, Fault}
-use Rattle.numbers.specs.Numbers.{number_at}
+use Rattle.numbers.specs.Numbers.{Number, number_at}
+use Rattle.numbers.specs.Numbers.Number.{Value, Fault}
 use Rattle.numbers.specs.Format.{Format, ended, gate, many, held_to, unless_refused, before, reading}
 use Rattle.numbers.proofs.Formats.{held}
 use Rattle.numbers.proofs.Steps.{item_taken, item_stopped}

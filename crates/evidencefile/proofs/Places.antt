@@ -14,8 +14,8 @@ use Rattle.verdict.proofs.Ordered.{apart, need_against}
 use Rattle.sets.specs.Rooms.{max_room}
 use Rattle.pattern.specs.Pattern.{Pattern}
 use Rattle.pattern.specs.Tests.{set_test}
-use Rattle.numbers.specs.declared.Number.TheVariants.{Value, Fault}
 use Rattle.numbers.specs.Numbers.{encode, number_at, AreBytes}
+use Rattle.numbers.specs.Numbers.Number.{Value, Fault}
 use Rattle.numbers.specs.Format.{Format, ended, item, gate, many, Reading, got, refused, reading, file_reading, encode_all}
 use Rattle.numbers.specs.Faults.{Padded, TooBig, After, here, taken, through, StoppedBy, by_form, by_range, by_gate, Stops}
 use Rattle.numbers.proofs.RoundTrip.{read_after_write}

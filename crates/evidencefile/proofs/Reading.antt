@@ -7,9 +7,8 @@ use lib.ListN.{length}
 use Rattle.lent.specs.Lent.{lay}
 use Rattle.pattern.specs.Pattern.{Sized, pattern_of}
 use Rattle.pattern.specs.Tests.{set_test}
-use Rattle.numbers.specs.declared.Number.{Number}
-use Rattle.numbers.specs.declared.Number.TheVariants.{Value, Fault}
-use Rattle.numbers.specs.Numbers.{encode, AreBytes}
+use Rattle.numbers.specs.Numbers.{Number, encode, AreBytes}
+use Rattle.numbers.specs.Numbers.Number.{Value, Fault}
 use Rattle.numbers.specs.Format.{Reading, got, refused, reading, file_reading, encode_all, Fits}
 use Rattle.numbers.proofs.RoundTrip.{fault_value}
 use Rattle.numbers.proofs.Formats.{write_after_reading, file_write_after_read}

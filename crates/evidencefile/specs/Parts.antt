@@ -4,8 +4,8 @@
 use Rattle.std.specs.Prelude.{ℕ, ◌*◌, List, [], ◌∷◌, ◌≡◌, length}
 use Rattle.verdict.specs.Verdict.{Verdict}
 use Rattle.lent.specs.Lent.{lay}
-use Rattle.numbers.specs.declared.Number.{Number}
-use Rattle.numbers.specs.declared.Number.TheVariants.{Value, Fault}
+use Rattle.numbers.specs.Numbers.{Number}
+use Rattle.numbers.specs.Numbers.Number.{Value, Fault}
 use Rattle.numbers.specs.Format.{ended, many, Reading, got, refused, reading}
 use Rattle.evidencefile.specs.EvidenceFile.{alternating}
 

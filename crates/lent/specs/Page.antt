@@ -6,8 +6,8 @@ use Rattle.std.specs.Prelude.{◌≡◌, List, ℕ, ◌+◌, ◌≤◌, length}
 use Rattle.lent.specs.declared.Page.{Page}
 use Rattle.lent.specs.Lent.{Put}
 
-abbrev pub HasRoomFor : Page → List ℕ → Type 0
-HasRoomFor page values = page.at + length values ≤ length page.out.now
+pub record HasRoomFor (page : Page) (values : List ℕ) : Type 0 where
+  pub fits : page.at + length values ≤ length page.out.now
 
 pub record Puts (old : Page) (values : List ℕ) (new : Page) : Type 0 where
   pub put : Put old.out.now old.at values new.at new.out.now

@@ -8,8 +8,8 @@ use native.Mathlib.Omega.{arith}
 use lib.ListN.{length, drop, get_or}
 use Rattle.verdict.specs.Verdict.Verdict.{Fine, Against}
 use Rattle.verdict.proofs.Ordered.{apart, one_number}
-use Rattle.numbers.specs.declared.Number.TheVariants.{Fault}
 use Rattle.numbers.specs.Numbers.{byte_test, Form, whole, faulty, more, groups, placed, number_at}
+use Rattle.numbers.specs.Numbers.Number.{Fault}
 use Rattle.numbers.specs.Faults.{EndsEarly, Needless, Beyond, BadlyWritten, Padded, TooBig}
 use Rattle.numbers.proofs.Groups.{faulty_whole, fine_when, against_zero, against_tenth, groups_none, groups_bad, groups_more, groups_cases}
 use Rattle.numbers.proofs.RoundTrip.{fault_value}

@@ -13,8 +13,8 @@
 use Rattle.std.specs.Prelude.{ℕ, ◌+◌, ◌*◌, ◌%◌, ◌^◌, ◌<◌, ◌≤◌, List, [], ◌∷◌, ◌++◌, ◌≡◌, length, drop, get_or}
 use Rattle.verdict.specs.Verdict.{Verdict}
 use Rattle.verdict.specs.Verdict.Verdict.{Fine, Against}
-use Rattle.numbers.specs.declared.Number.TheVariants.{Value, Fault}
 use Rattle.numbers.specs.Numbers.{number_at}
+use Rattle.numbers.specs.Numbers.Number.{Value, Fault}
 use Rattle.numbers.specs.Format.{Format, ended, item, gate, encode_all}
 
 -- fewer than ten bytes are left, from byte number i on, and each says that another follows

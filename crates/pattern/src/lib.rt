@@ -23,6 +23,14 @@ pub struct Pattern<'a> {
     pub rows: &'a [u64],
 }
 
+// Two sets of states of one pattern, as they are lent.
+#[derive(Clone, Copy)]
+pub struct Question<'a> {
+    pub pattern: Pattern<'a>,
+    pub x: u64,
+    pub y: u64,
+}
+
 // A pattern of at most 64 states with a row for each state and letter, as every pattern is that `shape_test` lets through.
 #[derive(Clone, Copy)]
 pub struct Shaped<'a> {

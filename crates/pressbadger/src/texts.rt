@@ -2,8 +2,6 @@
 ghost use Rattle.std.specs.Prelude.{◌≡◌};
 ghost use Rattle.pressbadger.specs.Texts.{expressed_answer, ExpressedTexts};
 
-use expressions::Answer;
-
 // The answer to `pb_expressions`: 7 and the pattern's numbers, or a refusal with its place and its text.
 #[repr(C)]
 #[derive(Clone, Copy)]
@@ -23,27 +21,26 @@ pub struct PbExpressed {
 pub extern "C" fn pb_expressions(one: &[u8], two: &[u8], rows: &mut [u64]) -> PbExpressed
     ensures { ExpressedTexts one.now two.now rows.old result rows.new }
 {
-    let answer = expressions::expressions(one, two, rows);
-    match answer {
-        Answer::Done(states, finals, x, y) => PbExpressed {
+    match expressions::expressions(one, two, rows) {
+        Ok(made) => PbExpressed {
             answer: 7,
-            states: states,
+            states: made.states,
             letters: 32,
-            finals: finals,
-            x: x,
-            y: y,
+            finals: made.finals,
+            x: made.x,
+            y: made.y,
             place: 0,
             text: 0,
         },
-        Answer::Refused(number, place, text) => PbExpressed {
-            answer: number,
+        Err(refused) => PbExpressed {
+            answer: u8::from(refused.fault.why),
             states: 0,
             letters: 0,
             finals: 0,
             x: 0,
             y: 0,
-            place: place,
-            text: text as u8,
+            place: refused.fault.place,
+            text: refused.text,
         },
     }
 }

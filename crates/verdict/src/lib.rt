@@ -39,6 +39,15 @@ pub struct Fault {
     pub place: usize,
 }
 
+// A refusal of the whole, which has no place of its own, stands at 0.
+impl From<Refusal> for Fault {
+    ghost from_gives = { λ why fault. fault ≡ record { why = why; place = 0 } };
+
+    fn from(why: Refusal) -> Fault {
+        Fault { why, place: 0 }
+    }
+}
+
 // A test that holds has nothing against it; one that fails is refused.
 #[tactic(auto, unfolding(crate::specs::Tests::held))]
 pub fn need<E: Drop>(holds: bool, why: E) -> Result<(), E>

@@ -3,7 +3,7 @@ use Prim.Native.Nat.{ℕ, ◌*◌}
 use mathlib.Core.Path.{◌≡◌, ap, ◌∙◌}
 use native.Mathlib.Omega.{arith}
 use Rattle.pattern.specs.Tests.{set_test}
-use Rattle.numbers.specs.declared.Number.{Number}
+use Rattle.numbers.specs.Numbers.{Number}
 use Rattle.numbers.specs.Format.{ended, many, reading}
 use Rattle.patternfile.specs.Parts.{passed}
 use Rattle.evidencefile.specs.EvidenceFile.{pair_room_test}
