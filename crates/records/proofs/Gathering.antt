@@ -22,8 +22,6 @@ use Rattle.walk.specs.Walk.{Question}
 use Rattle.evidence.specs.declared.Answer.{Answer}
 use Rattle.evidence.specs.Evidence.Checked.{refuses, not_started, started}
 use Rattle.records.specs.declared.PbRecord.{PbRecord}
-use Rattle.records.specs.declared.answers.PbChecked.{PbChecked}
-use Rattle.records.specs.Answers.{CheckedOffer}
 use Rattle.records.specs.Offers.{offer_for}
 use Rattle.records.specs.Records.{value_in, columns_in}
 use Rattle.records.specs.Inner.{Shown, Gathers}

@@ -7,7 +7,6 @@ use Rattle.walk.specs.Walk.{Question, kept_of, word_of}
 use Rattle.walk.specs.Inclusion.{joined}
 use Rattle.lent.specs.Lent.{lay}
 use Rattle.std.specs.Prelude.{Ok, Err}
-use Rattle.verdict.specs.declared.Refusal.{Refusal}
 use Rattle.verdict.proofs.Refusals.{number_high}
 use Rattle.comparison.specs.Answers.{Answered, answer_of}
 use Rattle.comparison.specs.declared.Answer.{Answer}

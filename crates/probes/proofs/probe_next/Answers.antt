@@ -1,5 +1,4 @@
 -- `probes::probe_next` answers so for every set of finals, which no successor looks at.
-use Rattle.std.proofs.Common.{sym}
 use Rattle.pattern.specs.Tests.{shape_test}
 use Rattle.pattern.specs.Language.{next}
 use Rattle.probes.specs.Probes.{next_test}
