@@ -34,7 +34,6 @@ use Rattle.comparison.specs.Answers as Comparison
 use Rattle.std.specs.Prelude.{Result, Ok, Err}
 use Rattle.verdict.specs.declared.Refusal.{Refusal}
 use Rattle.verdict.specs.declared.Fault.{Fault}
-use Rattle.verdict.specs.Refusals.{number}
 use Rattle.comparison.specs.Answers.{Lent, Call, answer_of, values_of, Compared}
 use Rattle.comparison.specs.Answers.Compared.{refuses, walks}
 use Rattle.comparison.specs.Meaning as OfComparison
@@ -44,7 +43,7 @@ use Rattle.comparison.specs.Inclusion as OneWay
 use Rattle.comparison.specs.Inclusion.{AnsweredOneWay, answered_one_way, Included}
 use Rattle.comparison.specs.InclusionMeaning as OfOneWay
 use Rattle.comparison.specs.declared.inclusion.Inclusion.{Inclusion}
-use Rattle.comparison.proofs.Asking.{compare_fine, compare_among, refusal_number}
+use Rattle.comparison.proofs.Asking.{compare_fine, compare_among}
 use Rattle.comparison.proofs.Standing.{laid, firsts_laid}
 use Rattle.comparison.proofs.CompareHonest.{compare_valid, compare_honest, compare_answers}
 use Rattle.comparison.proofs.CompareRoom.{kept_is, compare_more_room, compare_room_enough, compare_never_full}
