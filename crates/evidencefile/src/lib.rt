@@ -4,7 +4,9 @@
 ghost use Rattle.std.specs.Prelude.{◌≡◌, ◌≤◌, length};
 ghost use Rattle.verdict.specs.Refusals.{said};
 ghost use Rattle.lent.specs.Page.{HasRoomFor, Puts};
-ghost use Rattle.numbers.specs.Format.{reading, encode_all};
+ghost use Rattle.numbers.specs.Numbers.{number_at};
+ghost use Rattle.numbers.specs.Format.{held_to, reading, encode_all};
+ghost use Rattle.numbers.specs.Told.{told_number};
 ghost use Rattle.evidence.specs.Lent.{offer_in};
 ghost use Rattle.evidence.specs.Evidence.{ValidOffer};
 ghost use Rattle.evidencefile.specs.EvidenceFile.{count_test, pair_room_test, pairs_format, alternating, file_bytes, lists_of};
@@ -35,6 +37,12 @@ fn count_test(pairs: usize) -> Result<(), Refusal>
     need(pairs <= States::MAX_ROOM, Refusal::BadList)
 }
 
+fn read_count(bytes: &[u8], at: usize) -> Result<Placed, Fault>
+    ensures { told_number result ≡ held_to count_test at (number_at bytes.now at) }
+{
+    numbers::read_held(bytes, at, |m| count_test(m as usize))
+}
+
 // NO-ROOM: both side buffers have room for so many numbers.
 #[tactic(auto, unfolding(crate::specs::EvidenceFile::pair_room_test), using(verdict::proofs::Refusals::said_held))]
 fn pair_room_test(lefts: usize, rights: usize, pairs: usize) -> Result<(), Refusal>
@@ -53,7 +61,7 @@ fn judge_pairs(
 ) -> Result<Placed, Fault>
     ensures { Counts (reading (pairs_format states lefts rights) bytes.now at) result }
 {
-    let count = numbers::read_held(bytes, at, |m| count_test(m as usize))?;
+    let count = read_count(bytes, at)?;
     let pairs = count.value as usize;
     let at_pairs = count.next;
     pair_room_test(lefts, rights, pairs).map_err(|why| Fault {
