@@ -1,7 +1,7 @@
 -- From what asking and putting ensure to what is reported. Assumes nothing.
 use mathlib.Core.Path.{sym}
-use mathlib.Core.List.{List, ◌∷◌, map}
-use Prim.Native.Nat.{ℕ, ◌+◌, ◌≤◌}
+use mathlib.Core.List.{List, ◌∷◌, []}
+use Prim.Native.Nat.{ℕ, ◌≤◌}
 use native.Mathlib.Omega.{arith}
 use lib.ListN.{length}
 use lib.Seq.{length-take-le}
@@ -13,10 +13,10 @@ use Rattle.evidence.specs.declared.Answer.{Answer}
 use Rattle.evidence.specs.declared.Answer.TheVariants.{Proved, NotProved, Refused}
 use Rattle.evidence.proofs.CheckHonest.{check_honest}
 use Rattle.evidencefile.specs.EvidenceFile.{Lists}
-use Rattle.text.specs.Text.{decimal, line, refusal_text}
+use Rattle.text.specs.Text.{word, refusal_text}
 use Rattle.text.proofs.Lines.{head_short, refusal_short}
 use Rattle.checking.specs.declared.Asked.{Asked}
-use Rattle.checking.specs.Checking.{Offers, Answers, Prints, longest, Reported}
+use Rattle.checking.specs.Checking.{proved_text, not_proved_text, Offers, Answers, Prints, longest, Reported}
 use Rattle.checking.specs.Inner.{answer_text}
 use Rattle.checking.proofs.Asking.{offers_valid}
 
@@ -40,8 +40,8 @@ answer_printed are (Answers.answers {a = a} f k) = by_answer a are f k
 
 -- ---- there is room
 
-pub refusal_fits : (number place size : ℕ) → longest ≤ size → 0 + length (refusal_text number place) ≤ size
-refusal_fits number place size h = omega (arith, refusal_short number place)
-
-pub name_fits : (name numbers : List ℕ) (size : ℕ) → length name ≤ 10 → length numbers ≤ 1 → longest ≤ size → 0 + length (line (name ∷ map decimal numbers)) ≤ size
-name_fits name numbers size a b h = omega (arith, head_short name numbers)
+pub answer_short : (answer : Answer) → length (answer_text answer) ≤ longest
+unfolding proved_text not_proved_text
+answer_short Proved = omega (arith, head_short (word "PROVED") [])
+answer_short (NotProved place) = omega (arith, head_short (word "NOT-PROVED") (place ∷ []))
+answer_short (Refused number) = refusal_short number 0

@@ -1,14 +1,15 @@
 // The question of an evidence file: read, checked, and answered by the one line that `check` prints, put into a lent buffer.
 #![tactic(auto)]
 
-ghost use Rattle.std.specs.Prelude.{◌≡◌, ◌≤◌, length};
-ghost use Rattle.lent.specs.Lent.{Put};
+ghost use Rattle.std.specs.Prelude.{◌≤◌, length};
+ghost use Rattle.lent.specs.Page.{HasRoomFor, Puts};
 ghost use Rattle.evidencefile.specs.EvidenceFile.{lists_of};
 ghost use Rattle.checking.specs.Checking.{Suffices, Answers, longest, Reported, Leaves};
 ghost use Rattle.checking.specs.Inner.{answer_text};
 
 use evidence::Answer;
 use evidencefile::EvidenceRead;
+use lent::Page;
 use text::{put_head, put_refusal};
 
 // The check's answer, or the reader's refusal and its place.
@@ -51,17 +52,15 @@ pub fn ask(bytes: &[u8], rows: &mut [u64], lefts: &mut [u64], rights: &mut [u64]
 }
 
 // The line of the check's answer.
-fn put_answer(out: &mut [u8], answer: Answer) -> usize
-    requires { longest ≤ length out.old }
-    ensures { Put out.old 0 (answer_text answer) result out.new }
+#[tactic(auto, unfolding(crate::specs::Checking::proved_text))]
+fn put_answer(page: &mut Page, answer: Answer)
+    requires { HasRoomFor page.old (answer_text answer) }
+    ensures { Puts page.old (answer_text answer) page.new }
 {
     match answer {
-        Answer::Proved => put_head(out, 0, b"PROVED", &[]),
-        Answer::NotProved(place) => {
-            let places = [place as u64];
-            put_head(out, 0, b"NOT-PROVED", &places)
-        }
-        Answer::Refused(number) => put_refusal(out, 0, number, 0),
+        Answer::Proved => put_head(page, b"PROVED", &[]),
+        Answer::NotProved(place) => put_head(page, b"NOT-PROVED", &[place as u64]),
+        Answer::Refused(number) => put_refusal(page, number, 0),
     }
 }
 
@@ -78,9 +77,10 @@ pub fn report(
     ensures reports { Reported bytes.now out.old result out.new }
     ensures leaves { Leaves bytes.now (lists_of rows.old lefts.old rights.old) (lists_of rows.new lefts.new rights.new) }
 {
-    let asked = ask(bytes, rows, lefts, rights);
-    match asked {
-        Asked::Refused(number, place) => put_refusal(out, 0, number, place),
-        Asked::Answered(answer) => put_answer(out, answer),
+    let mut page = Page { out, at: 0 };
+    match ask(bytes, rows, lefts, rights) {
+        Asked::Refused(number, place) => put_refusal(&mut page, number, place),
+        Asked::Answered(answer) => put_answer(&mut page, answer),
     }
+    page.at
 }

@@ -15,9 +15,7 @@ use Rattle.congruence.specs.Congruence.{Congruent, Listed}
 use Rattle.congruence.specs.Closing.{Grows, Closed, Closes}
 use Rattle.congruence.specs.Closing.Grows.{nothing}
 use Rattle.congruence.proofs.Growth.{grown_on, grown_under}
-pub use Rattle.congruence.specs.Closing.{added}
-pub use Rattle.congruence.proofs.Passes.{passed}
-use Rattle.congruence.proofs.Passes.{whole, passed_closed}
+use Rattle.congruence.proofs.Passes.{passed, whole, passed_closed}
 use Rattle.congruence.proofs.Deciding.{closing_decides}
 
 -- ---- passes until one adds nothing

@@ -346,7 +346,8 @@ fn factor(
     Ok(marks(text, x, tables))
 }
 
-// Factors, one after the other.
+// Factors, one after the other. In its caller's frame: the stack that a text needs is said beside the export.
+#[inline(always)]
 #[cycle(readers)]
 fn sequence(
     text: &[u8],

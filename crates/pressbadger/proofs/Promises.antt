@@ -35,7 +35,7 @@ use Rattle.std.specs.Prelude.{Result, Ok, Err}
 use Rattle.verdict.specs.declared.Refusal.{Refusal}
 use Rattle.verdict.specs.declared.Fault.{Fault}
 use Rattle.verdict.specs.Refusals.{number}
-use Rattle.comparison.specs.Answers.{Answered, Lent, Call, answer_of, values_of, Compared}
+use Rattle.comparison.specs.Answers.{Lent, Call, answer_of, values_of, Compared}
 use Rattle.comparison.specs.Answers.Compared.{refuses, walks}
 use Rattle.comparison.specs.Meaning as OfComparison
 use Rattle.comparison.specs.Meaning.{Roomy, SameWritten}
@@ -63,7 +63,7 @@ use Rattle.evidence.proofs.Refusing.{check_lines_lem, check_among}
 use Rattle.numbers.specs.Numbers.{AreBytes}
 use Rattle.patternfile.specs.PatternFile.{file_bytes}
 use Rattle.patternfile.specs.Reader as Reader
-use Rattle.patternfile.specs.Reader.{Reads}
+use Rattle.patternfile.specs.Reader.{with_rows, Reads}
 use Rattle.patternfile.specs.Writer as Writer
 use Rattle.patternfile.specs.Writer.{Writes}
 use Rattle.patternfile.specs.declared.PatternNumbers.{PatternNumbers}
@@ -86,7 +86,7 @@ use Rattle.records.specs.Records.{written, columns_in, lent_for, call_on, Compar
 use Rattle.records.specs.Offers.{offer_for}
 use Rattle.records.proofs.Agreeing.{column_in, columns_first, firsts_known, pb_compare_by_columns, pb_compare_from_columns, pb_within_by_columns, pb_within_from_columns}
 use Rattle.records.proofs.Offering.{compare_same_is_proved}
-use Rattle.records.proofs.OneWay.{one_way_high, as_within_lem, as_refused}
+use Rattle.records.proofs.OneWay.{one_way_high, as_within_lem}
 use Rattle.pressbadger.specs.declared.PbJudged.{PbJudged}
 use Rattle.pressbadger.specs.declared.files.PbPattern.{PbPattern}
 use Rattle.pressbadger.specs.declared.files.PbWritten.{PbWritten}
@@ -103,16 +103,16 @@ high numbers {w} e m = among_from 10 e (among_need numbers false w m) refl
 
 -- ---- the comparison, as `comparison` says it
 
-module _ {c : Call} {a : Answered} {later : Lent} (k : Compared c a later) where
+module _ {c : Call} {a : Comparison.Answered} {later : Lent} (k : Compared c a later) where
   -- the answer is a refusal exactly where its number is one of the refusals
   named : OneOf compare_refusals (Comparison.number_of a) ↔ OfComparison.IsRefused a
   named = (to k, fro k)
     where
-      to : {a : Answered} {later : Lent} → Compared c a later → OneOf compare_refusals (Comparison.number_of a) → OfComparison.IsRefused a
+      to : {a : Comparison.Answered} {later : Lent} → Compared c a later → OneOf compare_refusals (Comparison.number_of a) → OfComparison.IsRefused a
       to (refuses e) m = tt
       to (walks {o} f w) m = absurd (omega (arith, high compare_refusals refl m, compare_valid ((compare_fine c).0 f) (walks f w)))
 
-      fro : {a : Answered} {later : Lent} → Compared c a later → OfComparison.IsRefused a → OneOf compare_refusals (Comparison.number_of a)
+      fro : {a : Comparison.Answered} {later : Lent} → Compared c a later → OfComparison.IsRefused a → OneOf compare_refusals (Comparison.number_of a)
       fro (refuses e) i = (compare_among c).among _ e
       fro (walks {o} f w) i = absurd ((compare_honest (walks {o = o} f w)).refused.0 i ((compare_fine c).0 f))
 
@@ -140,7 +140,7 @@ module _ {c : Call} {a : Answered} {later : Lent} (k : Compared c a later) where
       three (suc (suc zero)) h = Memᴰ.tail (Memᴰ.tail (Memᴰ.head refl))
       three (suc (suc (suc n))) h = absurd (omega (arith, h))
 
-      no_length : (a : Answered) → (Comparison.number_of a ≡ 1 → ⊥) → (values_of a).length ≡ 0
+      no_length : (a : Comparison.Answered) → (Comparison.number_of a ≡ 1 → ⊥) → (values_of a).length ≡ 0
       no_length (Ok (Answer.Same kept examined)) f = refl
       no_length (Ok (Answer.Different kept examined length)) f = absurd (f refl)
       no_length (Ok (Answer.Full kept examined)) f = refl
@@ -151,7 +151,7 @@ length_is (Same kept e) = refl
 length_is (Different kept e w) = refl
 length_is (Full kept e) = refl
 
-left : {c : Call} {a : Answered} {later : Lent} → Compared c a later → LeftLists c.lent (compare_answer a) later
+left : {c : Call} {a : Comparison.Answered} {later : Lent} → Compared c a later → LeftLists c.lent (compare_answer a) later
 left {c} (refuses e) = record { quiet = λ m. (refl, refl); other_numbers = λ x. refl; other_bytes = refl }
 left {c} (walks {o} f w) =
     record {
@@ -161,7 +161,7 @@ left {c} (walks {o} f w) =
       other_bytes = drop_lay (word_of o) c.lent.sequence (values_of (answer_of o)).length (sym (length_is o));
     }
 
-walked : {c : Call} {a : Answered} {later : Lent} → Compared c a later → (OfComparison.IsRefused a → ⊥) → WalkedLists c.question c.room (compare_answer a) later
+walked : {c : Call} {a : Comparison.Answered} {later : Lent} → Compared c a later → (OfComparison.IsRefused a → ⊥) → WalkedLists c.question c.room (compare_answer a) later
 walked (refuses e) n = absurd (n tt)
 walked {c} (walks {o} f w) n =
     record {
@@ -364,7 +364,7 @@ module _ {c : Call} {a : AnsweredOneWay} {later : Lent} (k : Included c a later)
       three (inr (inl e)) = Memᴰ.tail (Memᴰ.head e)
       three (inr (inr e)) = Memᴰ.tail (Memᴰ.tail (Memᴰ.head e))
 
-      no_length : (a : Inclusion) → (OneWay.number_of a ≡ 9 → ⊥) → (OneWay.values_of a).length ≡ 0
+      no_length : (a : AnsweredOneWay) → (OneWay.number_of a ≡ 9 → ⊥) → (OneWay.values_of a).length ≡ 0
       no_length (Ok (Inclusion.Within kept examined)) f = refl
       no_length (Ok (Inclusion.NotWithin kept examined length)) f = absurd (f refl)
       no_length (Ok (Inclusion.Full kept examined)) f = refl
@@ -395,12 +395,12 @@ pb_within_lists_compares {c} {later = later} k = let (s, q, e) = from k.included
     from (Included.refuses {why} e) = (
       compare_answer (Err why),
       record { answer = Err why; compared = refuses (joined_test c ∙ e); answers = refl },
-      as_refused (refusal_number c e),
+      as_within_lem (Err why),
     )
     from (Included.walks {o} f w) = (
       compare_answer (answer_of o),
       record { answer = answer_of o; compared = walks (joined_test c ∙ f) w; answers = refl },
-      as_within_lem o,
+      as_within_lem (answer_of o),
     )
 
 module _ {c : Call} {r : PbCompared} {later : Lent} (k : IncludedLists c r later) where
@@ -475,12 +475,12 @@ module _ {Q : Question} {room : ℕ} {records : List PbRecord} {sequence : List 
   pb_within_compares (IncludedRecords.refuses why e) = (
     compare_answer (Err why),
     ComparedRecords.refuses why (joined_test (call_on Q room records sequence) ∙ e),
-    as_refused (refusal_number (call_on Q room records sequence) e),
+    as_within_lem (Err why),
   )
   pb_within_compares (IncludedRecords.walks {o} f w) = (
     compare_answer (answer_of o),
     ComparedRecords.walks (joined_test (call_on Q room records sequence) ∙ f) w,
-    as_within_lem o,
+    as_within_lem (answer_of o),
   )
 
 module _ {Q : Question} {room : ℕ} {records : List PbRecord} {sequence : List ℕ} {r : PbCompared} {later : List PbRecord} {word : List ℕ}
@@ -582,7 +582,7 @@ same_by z (inr m) = absurd (omega (arith, high compare_refusals refl m, as_refus
 one_of : {c : Call} {s : PbCompared} {later : Lent} → ComparedLists c s later → OneOf (SAME ∷ DIFFERENT ∷ FULL ∷ []) s.answer ⊎ OneOf compare_refusals s.answer
 one_of k = rw k.answers (from k.compared)
   where
-    from : {c : Call} {a : Answered} {later : Lent} → Compared c a later
+    from : {c : Call} {a : Comparison.Answered} {later : Lent} → Compared c a later
         → OneOf (SAME ∷ DIFFERENT ∷ FULL ∷ []) (Comparison.number_of a) ⊎ OneOf compare_refusals (Comparison.number_of a)
     from {c} (refuses e) = inr ((compare_among c).among _ e)
     from {c} (walks {o} f w) = inl ((means (walks {o = o} f w)).answered ((compare_fine c).0 f))
@@ -638,7 +638,7 @@ module _ (P : Pattern) (set : ℕ) (sequence : List ℕ) where
 module _ {bytes : List ℕ} (are : AreBytes bytes) (old : List ℕ) where
   named_read : (r : Result PatternNumbers Fault) (new : List ℕ) → Reads bytes old r new → OneOf read_refusals (Reader.number_of r) ↔ Reader.IsRefused r
   named_read (Ok f) new h = (λ m. omega (arith, high read_refusals refl m), λ i. absurd i)
-  named_read (Err fault) new h = (λ m. tt, λ i. (read_number {s = bytes} {old = old} {new = new} are h).among w refl)
+  named_read (Err fault) new h = (λ m. tt, λ i. (read_number {s = bytes} {old = old} {new = new} fault are h).among _ refl)
 
   padded_refuses : OneOf read_refusals PADDED
   padded_refuses = Memᴰ.tail (Memᴰ.tail (Memᴰ.tail (Memᴰ.tail (Memᴰ.head refl))))
@@ -684,7 +684,7 @@ module _ {bytes : List ℕ} (are : AreBytes bytes) (old : List ℕ) where
 module _ (P : Pattern) (x y : ℕ) (old : List ℕ) where
   named_write : (r : Result ℕ Refusal) (new : List ℕ) → Writes P x y old r new → OneOf write_refusals (Writer.number_of r) ↔ Writer.IsRefused r
   named_write (Ok count) new h = (λ m. omega (arith, high write_refusals refl m), λ i. absurd i)
-  named_write (Err why) new h = (λ m. tt, λ i. (write_number {P = P} {x = x} {y = y} {old = old} {new = new} h).among w refl)
+  named_write (Err why) new h = (λ m. tt, λ i. (write_number {P = P} {x = x} {y = y} {old = old} why h).among _ refl)
 
   write_means : (r : Result ℕ Refusal) (new : List ℕ) → Writes P x y old r new → WrittenMeans P x y old (written_answer r) new
   write_means r new k =

@@ -7,7 +7,8 @@ use records::PbRecord;
 use records::answers::PbCompared;
 use sets::States;
 
-// Compares the sets `x` and `y` of states of a pattern in a given room, and writes the records that are kept.
+// Compares the sets `x` and `y` of states of a pattern in a given room, and writes the records that are kept. In its caller's frame: the stack it needs is said in the header.
+#[inline(always)]
 #[unsafe(no_mangle)]
 pub extern "C" fn pb_compare(
     states: usize,

@@ -24,13 +24,15 @@ impl From<Result<PatternNumbers, Fault>> for PbPattern {
 
     fn from(read: Result<PatternNumbers, Fault>) -> PbPattern {
         match read {
-            Ok(PatternNumbers {
-                states,
-                letters,
-                finals,
-                x,
-                y,
-            }) => PbPattern {
+            Ok(
+                PatternNumbers {
+                    states,
+                    letters,
+                    finals,
+                    x,
+                    y,
+                },
+            ) => PbPattern {
                 answer: 7,
                 states,
                 letters,

@@ -1,8 +1,7 @@
 // The one-way question: over a lent list of records, and over lists of numbers for a host that has no table of its own.
 ghost use Rattle.pressbadger.specs.Inclusions.{IncludesRecords, IncludesLists};
 
-use comparison::Tables;
-use comparison::inclusion;
+use comparison::{Tables, inclusion};
 use records::PbRecord;
 use records::answers::PbCompared;
 

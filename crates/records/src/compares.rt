@@ -76,11 +76,12 @@ pub fn compare(
 ) -> Result<Answer, Refusal>
     ensures { ComparedRecords (question_in question.now) room records.old sequence.old (compare_answer result) records.new sequence.new }
 {
-    let answer = compare_in::<SMALL_ROOM>(question, room, records, sequence)?;
-    if SMALL_ROOM < room && answer.is_full() {
-        return compare_in::<{ States::MAX_ROOM }>(question, room, records, sequence);
+    match compare_in::<SMALL_ROOM>(question, room, records, sequence) {
+        Ok(Answer::Full { .. }) if SMALL_ROOM < room => {
+            compare_in::<{ States::MAX_ROOM }>(question, room, records, sequence)
+        }
+        answer => answer,
     }
-    Ok(answer)
 }
 
 // Asks in a given room whether all that is accepted from `x` is accepted from `y`: the comparison of `x`+`y` with `y`.
