@@ -13,8 +13,9 @@ use Rattle.verdict.proofs.Refusals.{one_refusal}
 use Rattle.lent.specs.Lent.{lay}
 use Rattle.lent.proofs.Putting.{put_determined}
 use Rattle.pattern.specs.Pattern.{Pattern}
-use Rattle.numbers.specs.Format.{got, refused}
+use Rattle.numbers.specs.Format.{got}
 use Rattle.numbers.proofs.Formats.{refused_got}
+use Rattle.numbers.proofs.Places.{refused_is}
 use Rattle.patternfile.specs.declared.PatternNumbers.{PatternNumbers}
 use Rattle.patternfile.specs.Reader.{ReadDone, Reads}
 use Rattle.patternfile.specs.Writer.{Writes}
@@ -27,14 +28,11 @@ same_rows rows rows' x y x' y' l e = (
   sym (drop-append_seam rows (x ∷ y ∷ [])) ∙ ap (drop (length rows)) e ∙ drop_at rows' (x' ∷ y' ∷ []) (length rows) (sym l),
 )
 
-same_numbers : {f f' : PatternNumbers} → f.states ≡ f'.states → f.letters ≡ f'.letters → f.finals ≡ f'.finals → f.x ≡ f'.x → f.y ≡ f'.y → f ≡ f'
+pub same_numbers : {f f' : PatternNumbers} → f.states ≡ f'.states → f.letters ≡ f'.letters → f.finals ≡ f'.finals → f.x ≡ f'.x → f.y ≡ f'.y → f ≡ f'
 same_numbers en ek ef ex ey = λ i. record { states = en i; letters = ek i; finals = ef i; x = ex i; y = ey i }
 
 pub same_fault : {f f' : Fault} → number f.why ≡ number f'.why → f.place ≡ f'.place → f ≡ f'
 same_fault w p = let e = one_refusal w in λ i. record { why = e i; place = p i }
-
-pub one_refused : {w p w' p' : ℕ} → refused w p ≡ refused w' p' → (w ≡ w') × (p ≡ p')
-one_refused e = (cc, cc)
 
 done_same : {s old : List ℕ} (f f' : PatternNumbers) {new new' : List ℕ} → ReadDone s old f new → ReadDone s old f' new' → (f ≡ f') × (new ≡ new')
 done_same {s} {old} f f' p q =
@@ -56,7 +54,7 @@ reader_determined s old (Ok f) (Ok f') new new' p q = let (e, l) = done_same f f
 reader_determined s old (Ok f) (Err fault) new new' p q = absurd (refused_got (sym q.fault ∙ p.file.read))
 reader_determined s old (Err fault) (Ok f) new new' p q = absurd (refused_got (sym p.fault ∙ q.file.read))
 reader_determined s old (Err fault) (Err fault') new new' p q =
-    let (w, place) = one_refused (sym p.fault ∙ q.fault) in
+    let (w, place) = refused_is (sym p.fault ∙ q.fault) in
     (ap Err (same_fault w place), p.unchanged ∙ sym q.unchanged)
 
 pub writer_determined : (P : Pattern) (x y : ℕ) (old : List ℕ) (r r' : Result ℕ Refusal) (new new' : List ℕ) → Writes P x y old r new → Writes P x y old r' new'

@@ -27,11 +27,10 @@ use Rattle.numbers.proofs.Groups.{one_byte}
 use Rattle.numbers.proofs.RoundTrip.{read_after_write}
 use Rattle.numbers.proofs.Faults.{cut_exactly, padded_exactly, too_big_exactly, fault_is}
 use Rattle.numbers.proofs.Formats.{refused_got, file_read_after_write}
-use Rattle.numbers.proofs.Places.{first_fault, after_fits, AfterMany, among, behind, after_many}
+use Rattle.numbers.proofs.Places.{first_fault, refused_is, after_fits, AfterMany, among, behind, after_many}
 use Rattle.patternfile.specs.declared.PatternNumbers.{PatternNumbers}
 use Rattle.patternfile.specs.PatternFile.{numbers_of, starts_then, sets_then, after_letters, pattern_then, pattern_format}
 use Rattle.patternfile.specs.Reader.{Reads, number_of, values_of, IsRefused}
-use Rattle.patternfile.proofs.Determined.{one_refused}
 use Rattle.patternfile.specs.Refusals.{RefusedAt, bad_states, bad_letters, no_room, bad_set, cut, padded, too_big, tail}
 
 -- ---- what each test refuses
@@ -211,5 +210,5 @@ refusal_exactly s old (Ok f) new {w} {place} are h = (
 )
 refusal_exactly s old (Err f) new {w} {place} are h = (
   λ q. (first_fault (pattern_format (length old)) s w place are).0 (h.fault ∙ rw (q.1, q.2)),
-  λ t. let (e, p) = one_refused (sym h.fault ∙ (first_fault (pattern_format (length old)) s w place are).1 t) in (tt, e, p),
+  λ t. let (e, p) = refused_is (sym h.fault ∙ (first_fault (pattern_format (length old)) s w place are).1 t) in (tt, e, p),
 )
