@@ -10,12 +10,13 @@ use Rattle.lent.proofs.Putting.{put_length}
 use Rattle.numbers.specs.Numbers.{AreBytes}
 use Rattle.evidence.specs.Evidence.{Offer, Checked}
 use Rattle.evidence.specs.declared.Answer.{Answer}
-use Rattle.evidence.specs.declared.Answer.TheVariants.{Proved, NotProved, Refused}
-use Rattle.evidence.proofs.CheckHonest.{check_honest}
+use Rattle.evidence.specs.declared.Answer.TheVariants.{Proved, NotProved}
+use Rattle.std.specs.Prelude.{Ok, Err}
+use Rattle.verdict.specs.declared.Fault.{Fault}
+use Rattle.verdict.specs.Refusals.{number}
 use Rattle.evidencefile.specs.EvidenceFile.{Lists}
 use Rattle.text.specs.Text.{word, refusal_text}
 use Rattle.text.proofs.Lines.{head_short, refusal_short}
-use Rattle.checking.specs.declared.Asked.{Asked}
 use Rattle.checking.specs.Checking.{proved_text, not_proved_text, Offers, Answers, Prints, longest, Reported}
 use Rattle.checking.specs.Inner.{answer_text}
 use Rattle.checking.proofs.Asking.{offers_valid}
@@ -26,17 +27,15 @@ reported {r = r} {new} prints put =
     let within : r ≤ length new = omega (arith, put.within, put_length put) in
     record { text = _; prints = prints; put = put; within = within; counted = sym (length-take-le r new within) }
 
-pub refusal_printed : {input : List ℕ} {old new : Lists} {number place : ℕ} → Answers input old (Asked.Refused number place) new → Prints input (refusal_text number place)
+pub refusal_printed : {input : List ℕ} {old new : Lists} {fault : Fault} → Answers input old (Err fault) new → Prints input (refusal_text (number fault.why) fault.place)
 refusal_printed (Answers.refuses r) = Prints.refuses r
 
--- the check does not refuse a valid offer
-by_answer : {input : List ℕ} {o : Offer} (a : Answer) → AreBytes input → Offers input o → Checked o a → Prints input (answer_text a)
-by_answer Proved are f k = Prints.proved f k
-by_answer (NotProved place) are f k = Prints.not_proved f k
-by_answer (Refused number) are f k = absurd ((check_honest k).refused.0 tt (offers_valid are f))
+by_answer : {input : List ℕ} {o : Offer} (a : Answer) → Offers input o → Checked o (Ok a) → Prints input (answer_text a)
+by_answer Proved f k = Prints.proved f k
+by_answer (NotProved place) f k = Prints.not_proved f k
 
-pub answer_printed : {input : List ℕ} {old new : Lists} {answer : Answer} → AreBytes input → Answers input old (Asked.Answered answer) new → Prints input (answer_text answer)
-answer_printed are (Answers.answers {a = a} f k) = by_answer a are f k
+pub answer_printed : {input : List ℕ} {old new : Lists} {answer : Answer} → Answers input old (Ok answer) new → Prints input (answer_text answer)
+answer_printed (Answers.answers {a = a} f k) = by_answer a f k
 
 -- ---- there is room
 
@@ -44,4 +43,3 @@ pub answer_short : (answer : Answer) → length (answer_text answer) ≤ longest
 unfolding proved_text not_proved_text
 answer_short Proved = omega (arith, head_short (word "PROVED") [])
 answer_short (NotProved place) = omega (arith, head_short (word "NOT-PROVED") (place ∷ []))
-answer_short (Refused number) = refusal_short number 0

@@ -7,48 +7,39 @@ ghost use Rattle.evidencefile.specs.EvidenceFile.{lists_of};
 ghost use Rattle.checking.specs.Checking.{Suffices, Answers, longest, Reported, Leaves};
 ghost use Rattle.checking.specs.Inner.{answer_text};
 
-use evidence::Answer;
-use evidencefile::EvidenceRead;
+use evidence::{Answer, Offer};
 use lent::Page;
+use pattern::Pattern;
 use text::{put_head, put_refusal};
-
-// The check's answer, or the reader's refusal and its place.
-#[derive(Drop)]
-pub enum Asked {
-    Answered(Answer),
-    Refused(u8, usize),
-}
+use verdict::Fault;
 
 // Reads the file and checks its pairs; a file that was read is never refused by the check.
-pub fn ask(bytes: &[u8], rows: &mut [u64], lefts: &mut [u64], rights: &mut [u64]) -> Asked
+pub fn ask(
+    bytes: &[u8],
+    rows: &mut [u64],
+    lefts: &mut [u64],
+    rights: &mut [u64],
+) -> Result<Answer, Fault>
     requires { Suffices (lists_of rows.old lefts.old rights.old) }
     ensures { Answers bytes.now (lists_of rows.old lefts.old rights.old) result (lists_of rows.new lefts.new rights.new) }
 {
-    let file = evidencefile::read(bytes, rows, lefts, rights);
-    match file {
-        EvidenceRead::Refused(number, place) => Asked::Refused(number, place),
-        EvidenceRead::Done {
-            states,
-            letters,
-            finals,
-            x,
-            y,
-            pairs,
-        } => {
-            let count = states * letters;
-            let answer = evidence::check(
-                states,
-                letters,
-                finals,
-                &rows[..count],
-                x,
-                y,
-                &lefts[..pairs],
-                &rights[..pairs],
-            );
-            Asked::Answered(answer)
-        }
-    }
+    let file = evidencefile::read(bytes, rows, lefts, rights)?;
+    let found = file.pattern;
+    let count = found.states * found.letters;
+    let pattern = Pattern {
+        states: found.states,
+        letters: found.letters,
+        finals: found.finals,
+        rows: &rows[..count],
+    };
+    let offer = Offer {
+        pattern,
+        x: found.x,
+        y: found.y,
+        lefts: &lefts[..file.pairs],
+        rights: &rights[..file.pairs],
+    };
+    Ok(offer.check()?)
 }
 
 // The line of the check's answer.
@@ -60,7 +51,6 @@ fn put_answer(page: &mut Page, answer: Answer)
     match answer {
         Answer::Proved => put_head(page, b"PROVED", &[]),
         Answer::NotProved(place) => put_head(page, b"NOT-PROVED", &[place as u64]),
-        Answer::Refused(number) => put_refusal(page, number, 0),
     }
 }
 
@@ -79,8 +69,8 @@ pub fn report(
 {
     let mut page = Page { out, at: 0 };
     match ask(bytes, rows, lefts, rights) {
-        Asked::Refused(number, place) => put_refusal(&mut page, number, place),
-        Asked::Answered(answer) => put_answer(&mut page, answer),
+        Ok(answer) => put_answer(&mut page, answer),
+        Err(Fault { why, place }) => put_refusal(&mut page, u8::from(why), place),
     }
     page.at
 }
