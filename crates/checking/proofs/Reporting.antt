@@ -7,7 +7,6 @@ use lib.ListN.{length}
 use lib.Seq.{length-take-le}
 use Rattle.lent.specs.Lent.{Put}
 use Rattle.lent.proofs.Putting.{put_length}
-use Rattle.numbers.specs.Numbers.{AreBytes}
 use Rattle.evidence.specs.Evidence.{Offer, Checked}
 use Rattle.evidence.specs.declared.Answer.{Answer}
 use Rattle.evidence.specs.declared.Answer.TheVariants.{Proved, NotProved}
@@ -16,10 +15,9 @@ use Rattle.verdict.specs.declared.Fault.{Fault}
 use Rattle.verdict.specs.Refusals.{number}
 use Rattle.evidencefile.specs.EvidenceFile.{Lists}
 use Rattle.text.specs.Text.{word, refusal_text}
-use Rattle.text.proofs.Lines.{head_short, refusal_short}
+use Rattle.text.proofs.Lines.{head_short}
 use Rattle.checking.specs.Checking.{proved_text, not_proved_text, Offers, Answers, Prints, longest, Reported}
 use Rattle.checking.specs.Inner.{answer_text}
-use Rattle.checking.proofs.Asking.{offers_valid}
 
 -- a text that was put
 pub reported : {input text old : List ℕ} {r : ℕ} {new : List ℕ} → Prints input text → Put old 0 text r new → Reported input old r new
