@@ -77,7 +77,7 @@ fn judge_pairs(
 }
 
 // The second pass: so many pairs from a place on go into the two sides, as far as they can be read.
-// By index: of two slices that one loop writes by a zip, nothing would be known.
+// By index: what a loop writes through a zip of two slices is lost to the proof.
 fn fill_pairs(bytes: &[u8], at: usize, lefts: &mut [u64], rights: &mut [u64], count: usize)
     requires lefts_fit { count ≤ length lefts.old }
     requires rights_fit { count ≤ length rights.old }
