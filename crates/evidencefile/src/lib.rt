@@ -14,6 +14,7 @@ ghost use Rattle.evidencefile.specs.Reader.{Reads};
 ghost use Rattle.evidencefile.specs.Writer.{write_test, Writes};
 ghost use Rattle.evidencefile.specs.Parts.{Counts, FilledPairs};
 
+use congruence::Pairs;
 use evidence::Offer;
 use lent::Page;
 use numbers::Placed;
@@ -76,7 +77,7 @@ fn judge_pairs(
 }
 
 // The second pass: so many pairs from a place on go into the two sides, as far as they can be read.
-// By index: of two slices that one loop writes by a zip, nothing would be known.
+// By index: what a loop writes through a zip of two slices is lost to the proof.
 fn fill_pairs(bytes: &[u8], at: usize, lefts: &mut [u64], rights: &mut [u64], count: usize)
     requires lefts_fit { count ≤ length lefts.old }
     requires rights_fit { count ≤ length rights.old }
@@ -109,13 +110,7 @@ pub fn read(
     let part = patternfile::judge(bytes, rows.len())?;
     let found = part.numbers;
     let count = judge_pairs(bytes, part.end, found.states, lefts.len(), rights.len())?;
-    need(
-        bytes.len() <= count.next,
-        Fault {
-            why: Refusal::Tail,
-            place: count.next,
-        },
-    )?;
+    numbers::no_tail(bytes, count.next)?;
     let pairs = count.value as usize;
     let at_rows = 2 + numbers::size(found.finals);
     let at_pairs = part.end + numbers::size(count.value);
@@ -152,12 +147,11 @@ fn write_test(offer: &Offer, room: usize) -> Result<(), Refusal>
 }
 
 // Puts left and right of each pair.
-fn put_pairs(page: &mut Page, lefts: &[u64], rights: &[u64])
-    requires sides_match { length lefts.now ≡ length rights.now }
-    requires enough { HasRoomFor page.old (encode_all (alternating lefts.now rights.now)) }
-    ensures { Puts page.old (encode_all (alternating lefts.now rights.now)) page.new }
+fn put_pairs(page: &mut Page, pairs: &Pairs)
+    requires { HasRoomFor page.old (encode_all (alternating pairs.now.lefts.now pairs.now.rights.now)) }
+    ensures { Puts page.old (encode_all (alternating pairs.now.lefts.now pairs.now.rights.now)) page.new }
 {
-    for (left, right) in lefts.iter().zip(rights) {
+    for (left, right) in pairs.lefts.iter().zip(pairs.rights) {
         numbers::write(page, *left);
         numbers::write(page, *right);
     }
@@ -173,9 +167,13 @@ pub fn write(offer: &Offer, out: &mut [u8]) -> Result<usize, Refusal>
         x: offer.x,
         y: offer.y,
     };
+    let pairs = Pairs {
+        lefts: offer.lefts,
+        rights: offer.rights,
+    };
     let mut page = Page { out, at: 0 };
     patternfile::put_pattern(&mut page, &question);
     numbers::write(&mut page, offer.lefts.len() as u64);
-    put_pairs(&mut page, offer.lefts, offer.rights);
+    put_pairs(&mut page, &pairs);
     Ok(page.at)
 }

@@ -3,8 +3,11 @@
 --   told_number r       a number of a file, or a fault
 --   HoldsTo Tells bytes at r
 --                       the number at a place was held to a test, where `Tells v r` holds of what the test of v may answer
-use Rattle.std.specs.Prelude.{ℕ, ◌^◌, ◌<◌, List, ◌≡◌, Result, Ok, Err}
+--   EndsAt bytes place r
+--                       the data end at a place, or TAIL stands there
+use Rattle.std.specs.Prelude.{ℕ, ◌^◌, ◌<◌, ◌≤◌, List, ◌≡◌, length, Result, Ok, Err}
 use Rattle.verdict.specs.declared.Refusal.{Refusal}
+use Rattle.verdict.specs.declared.Refusal.TheVariants.{Tail}
 use Rattle.verdict.specs.declared.Fault.{Fault as FaultAt}
 use Rattle.verdict.specs.Verdict.{Verdict}
 use Rattle.verdict.specs.Refusals.{number, said}
@@ -25,3 +28,7 @@ told_number (Err fault) = Fault (number fault.why) fault.place
 
 pub record HoldsTo (Tells : ℕ → Result (Unit {0}) Refusal → Type 0) (bytes : List ℕ) (at : ℕ) (result : Result Placed FaultAt) : Type 0 where
   pub held : (test : ℕ → Verdict) → ((v : ℕ) (r : Result (Unit {0}) Refusal) → v < 2 ^ 64 → Tells v r → said r ≡ test v) → told_number result ≡ held_to test at (number_at bytes at)
+
+abbrev pub EndsAt : List ℕ → ℕ → Result (Unit {0}) FaultAt → Type 0
+EndsAt bytes place (Ok done) = length bytes ≤ place
+EndsAt bytes place (Err fault) = (place < length bytes) × (fault ≡ record { why = Tail; place = place })

@@ -6,7 +6,7 @@ ghost use Rattle.verdict.specs.Refusals.{said};
 ghost use Rattle.lent.specs.Page.{HasRoomFor, Puts};
 ghost use Rattle.numbers.specs.Numbers.{byte_test, read_at, encode};
 ghost use Rattle.numbers.specs.Format.{encode_all};
-ghost use Rattle.numbers.specs.Told.{told_read, HoldsTo};
+ghost use Rattle.numbers.specs.Told.{told_read, HoldsTo, EndsAt};
 
 use lent::Page;
 use verdict::{Fault, Refusal, need};
@@ -73,6 +73,20 @@ pub fn read_held<F: Fn(u64) -> Result<(), Refusal>>(
         value,
         next: at + took,
     })
+}
+
+// TAIL: no byte stands behind a place.
+#[tactic(auto, unfolding(verdict::specs::Tests::held))]
+pub fn no_tail(bytes: &[u8], place: usize) -> Result<(), Fault>
+    ensures { EndsAt bytes.now place result }
+{
+    need(
+        bytes.len() <= place,
+        Fault {
+            why: Refusal::Tail,
+            place,
+        },
+    )
 }
 
 // How many bytes v takes.

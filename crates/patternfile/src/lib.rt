@@ -110,13 +110,7 @@ pub fn read(bytes: &[u8], rows: &mut [u64]) -> Result<PatternNumbers, Fault>
     ensures { Reads bytes.now rows.old result rows.new }
 {
     let part = judge(bytes, rows.len())?;
-    need(
-        bytes.len() <= part.end,
-        Fault {
-            why: Refusal::Tail,
-            place: part.end,
-        },
-    )?;
+    numbers::no_tail(bytes, part.end)?;
     let found = part.numbers;
     let at = 2 + numbers::size(found.finals);
     fill(bytes, at, &mut rows[..found.states * found.letters]);

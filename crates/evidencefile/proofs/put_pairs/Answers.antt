@@ -12,9 +12,9 @@ use Rattle.evidencefile.proofs.put_pairs.Goals.{In-Some}
 
 pub loop-left-init : goal.loop-left-init
 loop-left-init c =
-    let first : iter_rest (zip_first c.into_iter-left-iterator.result) ≡ c.args.lefts.now = cc in
-    let second : iter_rest (zip_second c.into_iter-left-iterator.result) ≡ c.args.rights.now = cc in
-    record { paired = ap length first ∙ c.requires.sides_match ∙ ap length (sym second); left = rw (first, second) (to_put_first _ _ c.requires.enough) }
+    let first : iter_rest (zip_first c.into_iter-left-iterator.result) ≡ c.args.pairs.now.lefts.now = cc in
+    let second : iter_rest (zip_second c.into_iter-left-iterator.result) ≡ c.args.pairs.now.rights.now = cc in
+    record { paired = ap length first ∙ c.args.pairs.now.paired ∙ ap length (sym second); left = rw (first, second) (to_put_first _ _ c.requires) }
 
 pub write-requires : goal.write-requires
 write-requires c =

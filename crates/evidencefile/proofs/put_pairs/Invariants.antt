@@ -10,5 +10,5 @@ use Rattle.evidencefile.proofs.put_pairs.Given as goal
 abbrev pub invariant-loop-left : goal.invariant-loop-left
 invariant-loop-left l = record {
   paired : length (iter_rest (zip_first l.left-iterator)) ≡ length (iter_rest (zip_second l.left-iterator));
-  left : ToPut l.fn.page (encode_all (alternating l.fn.lefts l.fn.rights)) l.page (encode_all (alternating (iter_rest (zip_first l.left-iterator)) (iter_rest (zip_second l.left-iterator))));
+  left : ToPut l.fn.page (encode_all (alternating l.fn.pairs.lefts.now l.fn.pairs.rights.now)) l.page (encode_all (alternating (iter_rest (zip_first l.left-iterator)) (iter_rest (zip_second l.left-iterator))));
 }

@@ -1,9 +1,7 @@
 -- `evidencefile::read`: the two parts of the first pass give the answer unless bytes follow, and the second pass finds rows and pairs where they stand.
 use Rattle.std.proofs.Common.{rules, ◌≡◌, ◌+◌, ℕ, List, Err, Fits, w8, get_or, ap, sym, arith}
 use lib.Seq.{length-take-le}
-use borrow.Author.Tests.{leb-true, leb-false}
 use Rattle.numbers.specs.Numbers.{AreBytes}
-use Rattle.numbers.proofs.Faulted.{need_held, need_failed}
 use Rattle.numbers.proofs.TenBytes.{encode_ten}
 use Rattle.patternfile.proofs.Filling.{filled_front}
 use Rattle.evidencefile.specs.EvidenceFile.{lists_of}
@@ -26,12 +24,11 @@ returns-in_err-count c =
     rw e (reads_fault c.args.bytes.now old c.in_ok-part.part c.in_ok-part.ensures c.in_err-count.ensures)
 
 -- TAIL
-pub returns-in_err-need : goal.returns-in_err-need
-returns-in_err-need c =
+pub returns-in_err-no_tail : goal.returns-in_err-no_tail
+returns-in_err-no_tail c =
     let old = lists_of c.args.rows.now c.args.lefts.now c.args.rights.now in
-    let e : c.from_residual-in_err-need.result ≡ Err c.in_err-need.field-0.0 = search rules in
-    let (more, is) = need_failed c.in_err-need.ensures in
-    rw (e, is) (reads_tail c.args.bytes.now old c.in_ok-part.part c.in_ok-part.ensures c.in_ok-count.count c.in_ok-count.ensures (leb-false _ _ more))
+    let e : c.from_residual-in_err-no_tail.result ≡ Err c.in_err-no_tail.field-0.0 = search rules in
+    rw (e, c.in_err-no_tail.ensures.1) (reads_tail c.args.bytes.now old c.in_ok-part.part c.in_ok-part.ensures c.in_ok-count.count c.in_ok-count.ensures c.in_err-no_tail.ensures.0)
 
 pub overflow_add-at_rows : goal.overflow_add-at_rows
 overflow_add-at_rows c = omega (arith, encode_ten c.in_ok-part.part.numbers.finals)
@@ -41,7 +38,7 @@ overflow_add-at_pairs c =
     let old = lists_of c.args.rows.now c.args.lefts.now c.args.rights.now in
     omega (
       arith,
-      reads_placed c.args.bytes.now old c.in_ok-part.part c.in_ok-part.ensures c.in_ok-count.count c.in_ok-count.ensures (as_bytes c.type_inv.bytes) (leb-true _ _ (need_held _ c.in_ok-need.ensures)),
+      reads_placed c.args.bytes.now old c.in_ok-part.part c.in_ok-part.ensures c.in_ok-count.count c.in_ok-count.ensures (as_bytes c.type_inv.bytes) c.in_ok-no_tail.ensures,
     )
 
 pub overflow_mul-found : goal.overflow_mul-found
@@ -74,6 +71,6 @@ returns c =
     let old = lists_of c.args.rows.now c.args.lefts.now c.args.rights.now in
     let are = as_bytes c.type_inv.bytes in
     let room = reads_rows c.args.bytes.now old c.in_ok-part.part c.in_ok-part.ensures c.in_ok-count.count c.in_ok-count.ensures are in
-    reads_done c.args.bytes.now old c.in_ok-part.part c.in_ok-part.ensures c.in_ok-count.count c.in_ok-count.ensures are (leb-true _ _ (need_held _ c.in_ok-need.ensures))
+    reads_done c.args.bytes.now old c.in_ok-part.part c.in_ok-part.ensures c.in_ok-count.count c.in_ok-count.ensures are c.in_ok-no_tail.ensures
     (ap (λ (m : ℕ). 2 + m) c.size-at_rows.ensures) (ap (λ (m : ℕ). c.in_ok-part.part.end + m) c.size.ensures)
     (filled_front room (rw (length-take-le _ c.args.rows.now room) at c.fill.ensures)) c.fill_pairs.ensures

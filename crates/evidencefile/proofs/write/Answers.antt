@@ -23,13 +23,13 @@ write-requires c =
     let o = offer_in c.args.offer.now in
     first_fits (second_fits (record { fits = omega (arith, (allowed (goal.at.write-requires c).In_ok-write_test).enough) }) (part_first o) c.put_pattern.ensures) (count_then o)
 
-pub put_pairs-requires-clause-sides_match : goal.put_pairs-requires-clause-sides_match
-put_pairs-requires-clause-sides_match c = (allowed (goal.at.put_pairs-requires-clause-sides_match c).In_ok-write_test).valid.sides_match
+pub invariant_of-pairs : goal.invariant_of-pairs
+invariant_of-pairs c = record { paired = (allowed (goal.at.invariant_of-pairs c).In_ok-write_test).valid.sides_match }
 
-pub put_pairs-requires-clause-enough : goal.put_pairs-requires-clause-enough
-put_pairs-requires-clause-enough c =
+pub put_pairs-requires : goal.put_pairs-requires
+put_pairs-requires c =
     let o = offer_in c.args.offer.now in
-    second_fits (second_fits (record { fits = omega (arith, (allowed (goal.at.put_pairs-requires-clause-enough c).In_ok-write_test).enough) }) (part_first o) c.put_pattern.ensures) (count_then o) c.write.ensures
+    second_fits (second_fits (record { fits = omega (arith, (allowed (goal.at.put_pairs-requires c).In_ok-write_test).enough) }) (part_first o) c.put_pattern.ensures) (count_then o) c.write.ensures
 
 pub returns : goal.returns
 returns c =
