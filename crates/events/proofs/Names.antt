@@ -1,14 +1,14 @@
 -- What the names are: none is empty, none is longer than nine bytes, and no two of letters below 32 are alike. Assumes nothing.
-use mathlib.Core.Path.{◌≡◌, refl, sym, ap, ◌∙◌}
+use mathlib.Core.Path.{◌≡◌, refl, sym}
 use mathlib.Core.Bool.{Bool, not, ◌&&◌}
 use mathlib.Core.List.{List, ◌++◌, map}
 use Prim.Native.Nat.{ℕ, ◌<◌, ◌≤◌}
 use native.Mathlib.Decide.{dec_lt}
 use native.Mathlib.Omega.{arith}
 use lib.Dec.{T, leb, leb→le, T_not}
-use lib.ListN.{length, get_or, get_or-eq_default, length-map}
+use lib.ListN.{length, get_or, get_or-eq_default, get_or-map}
 use Rattle.std.specs.Borrow.{Bor}
-use Rattle.std.proofs.lemmas.List.{get_or-map}
+use Rattle.std.proofs.lemmas.List.{get_or_default}
 use Rattle.lent.proofs.Filling.{Splits}
 use Rattle.text.specs.Text.{word, digits, decimal}
 use Rattle.events.specs.Events.{names, event_name}
@@ -21,14 +21,14 @@ name_high a h = get_or-eq_default names (word "E" ++ decimal a) h
 pub name_numbered : (a : ℕ) → 12 ≤ a → Splits (event_name a) (word "E") (decimal a)
 name_numbered a h = record { parts = name_high a h }
 
--- in a table that has the twelve names a letter's name stands at the letter
-pub name_found : (table : List (Bor (List ℕ))) (a : ℕ) (d : Bor (List ℕ)) → a < 12 → map (λ (name : Bor (List ℕ)). name.now) table ≡ names
-    → (get_or table a d).now ≡ event_name a
+-- what a table of slices has at a place is what the list of their bytes has there
+pub bytes_at : (table : List (Bor (List ℕ))) (i : ℕ) (d : Bor (List ℕ)) → (get_or table i d).now ≡ get_or (map (λ (x : Bor (List ℕ)). x.now) table) i d.now
+bytes_at table i d = sym (get_or-map (λ (x : Bor (List ℕ)). x.now) table i d)
+
+-- each of the twelve stands at its letter
+pub name_at : (a : ℕ) (d : List ℕ) → a < 12 → get_or names a d ≡ event_name a
 unfolding event_name names
-name_found table a d h e =
-    let size : length table ≡ 12 = sym (length-map table (λ (name : Bor (List ℕ)). name.now)) ∙ ap length e in
-    sym (get_or-map (λ (name : Bor (List ℕ)). name.now) table a d (word "E" ++ decimal a) (omega arith))
-    ∙ ap (λ (l : List (List ℕ)). get_or l a (word "E" ++ decimal a)) e
+name_at a d h = get_or_default names a d (word "E" ++ decimal a) h
 
 -- a name has one to nine bytes
 fair : ℕ → Bool

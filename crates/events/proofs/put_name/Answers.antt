@@ -1,21 +1,21 @@
 -- `events::put_name` puts the letter's name of the table, or E and then the letter's decimal.
-use Rattle.std.proofs.Common.{ℕ, List, ap, refl, Bor}
+use Rattle.std.proofs.Common.{ℕ, List, ap, ◌∙◌, Bor}
 use Rattle.lent.proofs.Filling.{puts_as, first_fits, second_fits, both_put}
 use Rattle.events.specs.Events.{names}
-use Rattle.events.proofs.Names.{name_found, name_numbered}
+use Rattle.events.proofs.Names.{name_numbered, bytes_at, name_at}
 use Rattle.events.proofs.put_name.Goals as goal
 
 pub put_bytes-requires : goal.put_bytes-requires
 unfolding names
 put_bytes-requires c =
-    let found = rw (name_found _ c.args.letter _ c.in-Some.ensures.lookup.3.0 refl) at (ap (λ (x : Bor (List ℕ)). x.now) c.in-Some.ensures.lookup.1) in
-    rw found c.requires
+    let found = rw bytes_at at (ap (λ (x : Bor (List ℕ)). x.now) c.in-Some.ensures.lookup.1) in
+    rw (found ∙ name_at c.args.letter _ c.in-Some.ensures.lookup.3.0) c.requires
 
 pub returns-in-Some : goal.returns-in-Some
 unfolding names
 returns-in-Some c =
-    let found = rw (name_found _ c.args.letter _ c.in-Some.ensures.lookup.3.0 refl) at (ap (λ (x : Bor (List ℕ)). x.now) c.in-Some.ensures.lookup.1) in
-    puts_as c.put_bytes.ensures found
+    let found = rw bytes_at at (ap (λ (x : Bor (List ℕ)). x.now) c.in-Some.ensures.lookup.1) in
+    puts_as c.put_bytes.ensures (found ∙ name_at c.args.letter _ c.in-Some.ensures.lookup.3.0)
 
 pub put_byte-requires : goal.put_byte-requires
 put_byte-requires c = first_fits c.requires (name_numbered c.args.letter c.in-None.ensures.lookup.3)
