@@ -14,13 +14,14 @@ use Rattle.verdict.specs.declared.Refusal.TheVariants.{BadSize, BadSet, NoRoom, 
 use Rattle.verdict.specs.declared.Fault.{Fault}
 use Rattle.verdict.specs.Refusals.{number}
 use Rattle.patternfile.specs.declared.PatternNumbers.{PatternNumbers}
-use Rattle.patternfile.specs.Reader.{ReadDone, ReadRefused}
+use Rattle.patternfile.specs.Reader.{with_rows, ReadDone, ReadRefused}
 use Rattle.patternfile.specs.Refusals.{RefusedAt}
 use Rattle.patternfile.specs.Refusals.RefusedAt.{bad_states, bad_letters, no_room, bad_set, cut, padded, tail, too_big}
 use Rattle.patternfile.proofs.Places.{refused_there}
 use Rattle.patternfile.proofs.Contents.{accepted_valid}
 use Rattle.patternfile.proofs.RoundTrip.{left_rows}
-use Rattle.walk.specs.Walk.{Question, question_of, kept_of, word_of}
+use Rattle.pattern.specs.Pattern.{Pattern}
+use Rattle.walk.specs.Walk.{Question, kept_of, word_of}
 use Rattle.walk.proofs.WalkEnds.{walk_ends}
 use Rattle.comparison.specs.declared.Answer.{Answer}
 use Rattle.comparison.specs.Answers.{number_of, Lent, compare_test, answer_of, lay_out, Compared}
@@ -94,20 +95,25 @@ module _ {input rows : List ℕ} {f : PatternNumbers} {new : List ℕ} (t : Acce
   rows_read : take (f.states * f.letters) new ≡ t.done.rows
   rows_read = left_rows t.bytes t.done
 
-  abbrev question : Question
-  question = question_of f.states f.letters f.finals (take (f.states * f.letters) new) f.x f.y
+  abbrev pattern : Pattern
+  pattern = with_rows f (take (f.states * f.letters) new)
 
-  asks : Asks input question
+  abbrev question : Pattern → Question
+  question P = record { pattern = P; left = f.x; right = f.y }
+
+  asks : Asks input (question pattern)
   asks = rw (rows_read, ← t.size) t.done.file
 
   rows_laid : new ≡ lay (take (f.states * f.letters) new) rows
   rows_laid = rw rows_read t.done.written
 
-  pub accepted_answers : {room : ℕ} {lent : Lent} → Roomy room lent → {answer : Answer} {l : Lent} → Compared (call_for question room lent) (Ok answer) l
-      → Answers room input rows lent (Ok answer) new l
-  accepted_answers {room} {lent} roomy {answer} {l} compared =
-      subst (λ (s : List ℕ). Answers room input rows lent (Ok answer) s l) (sym rows_laid) (answered t.bytes asks roomy compared rows)
+  module _ {P : Pattern} (found : P ≡ pattern) {room : ℕ} {lent : Lent} (roomy : Roomy room lent) where
+    pub accepted_answers : {answer : Answer} {l : Lent} → Compared (call_for (question P) room lent) (Ok answer) l → Answers room input rows lent (Ok answer) new l
+    accepted_answers {answer} {l} compared =
+        subst (λ (s : List ℕ). Answers room input rows lent (Ok answer) s l) (sym rows_laid)
+        (answered t.bytes asks roomy (subst (λ (P : Pattern). Compared (call_for (question P) room lent) (Ok answer) l) found compared) rows)
 
-  -- the comparison refuses no file that was read
-  pub accepted_compared : {room : ℕ} {lent : Lent} → Roomy room lent → {why : Refusal} {l : Lent} → Compared (call_for question room lent) (Err why) l → ⊥
-  accepted_compared {room} {lent} roomy (Compared.refuses against) = apart (never_refused t.bytes asks roomy) against
+    -- the comparison refuses no file that was read
+    pub accepted_compared : {why : Refusal} {l : Lent} → Compared (call_for (question P) room lent) (Err why) l → ⊥
+    accepted_compared (Compared.refuses against) =
+        apart (subst (λ (P : Pattern). compare_test (call_for (question P) room lent) ≡ Fine) (sym found) (never_refused t.bytes asks roomy)) against

@@ -5,7 +5,7 @@ ghost use Rattle.comparison.specs.Answers.{lent_in};
 ghost use Rattle.asking.specs.Asking.{Suffices, AnswersFile};
 
 use comparison::{Answer, Tables};
-use pattern::{Pattern, Question};
+use pattern::Question;
 use verdict::Fault;
 
 // Reads the file and compares its two sets; a file that was read is never refused by the comparison.
@@ -19,15 +19,8 @@ pub fn ask(
     ensures { AnswersFile bytes.now room rows.old tables.old result rows.new tables.new }
 {
     let file = patternfile::read(bytes, rows)?;
-    let count = file.states * file.letters;
-    let pattern = Pattern {
-        states: file.states,
-        letters: file.letters,
-        finals: file.finals,
-        rows: &rows[..count],
-    };
     let question = Question {
-        pattern,
+        pattern: file.pattern(rows),
         x: file.x,
         y: file.y,
     };

@@ -4,10 +4,12 @@ use mathlib.Core.Path.{◌≡◌, refl, sym, ap, ◌∙◌, subst}
 use mathlib.Core.List.{List}
 use Prim.Native.Nat.{ℕ, ◌*◌, ◌≤◌}
 use native.Mathlib.Omega.{arith}
-use lib.ListN.{length}
+use lib.ListN.{length, take}
 use Rattle.numbers.specs.Numbers.{AreBytes}
 use Rattle.numbers.specs.Format.{Reading, got, refused, file_reading}
 use Rattle.numbers.proofs.Formats.{IsFile, file_write_after_read}
+use Rattle.pattern.specs.Pattern.{Pattern}
+use Rattle.patternfile.specs.Reader.{with_rows}
 use Rattle.evidence.specs.Evidence.{Offer, ValidOffer, Checked}
 use Rattle.evidence.specs.declared.Answer.{Answer}
 use Rattle.std.specs.Prelude.{Ok, Err}
@@ -19,7 +21,7 @@ use Rattle.evidencefile.specs.declared.EvidenceNumbers.{EvidenceNumbers}
 use Rattle.evidencefile.specs.EvidenceFile.{Rooms, Lists, rooms_of, numbers_of, evidence_format}
 use Rattle.evidencefile.specs.Reader.{with_lists, FileOf, ReadDone, ReadRefused}
 use Rattle.evidencefile.proofs.Contents.{Accepted, accepted_valid, OfferOf, fits_offer}
-use Rattle.evidencefile.proofs.RoundTrip.{offer_read, left_offer}
+use Rattle.evidencefile.proofs.RoundTrip.{left_offer}
 use Rattle.checking.specs.Checking.{most_rooms, Offers, Refuses, Suffices, Answers}
 use Rattle.checking.specs.Checking.Answers.{refuses, answers}
 
@@ -72,10 +74,18 @@ module _ (input : List ℕ) (old new : Lists) (are : AreBytes input) (size : Suf
     offers : Offers input found
     offers = subst (λ (r : Rooms). FileOf r input found) (most size) done.file
 
-    pub accepted_answers : {a : Answer} → Checked (offer_read f new) (Ok a) → Answers input old (Ok a) new
-    accepted_answers {a} checked =
-        subst (Answers input old (Ok a)) (sym done.written) (answers offers (subst (λ (o : Offer). Checked o (Ok a)) (left_offer done) checked))
+    -- what is checked: the pattern is told by an equation
+    abbrev offered : Pattern → Offer
+    offered P = record { pattern = P; x = f.pattern.x; y = f.pattern.y; lefts = take f.pairs new.lefts; rights = take f.pairs new.rights }
 
-    -- the check refuses no file that was read
-    pub accepted_checked : {why : Refusal} → Checked (offer_read f new) (Err why) → ⊥
-    accepted_checked {why} checked = (check_honest (subst (λ (o : Offer). Checked o (Err why)) (left_offer done) checked)).refused.0 tt (offers_valid are offers)
+    module _ {P : Pattern} (whole : P ≡ with_rows f.pattern (take (f.pattern.states * f.pattern.letters) new.rows)) where
+      is_found : offered P ≡ found
+      is_found = ap offered whole ∙ left_offer done
+
+      pub accepted_answers : {a : Answer} → Checked (offered P) (Ok a) → Answers input old (Ok a) new
+      accepted_answers {a} checked =
+          subst (Answers input old (Ok a)) (sym done.written) (answers offers (subst (λ (o : Offer). Checked o (Ok a)) is_found checked))
+
+      -- the check refuses no file that was read
+      pub accepted_checked : {why : Refusal} → Checked (offered P) (Err why) → ⊥
+      accepted_checked {why} checked = (check_honest (subst (λ (o : Offer). Checked o (Err why)) is_found checked)).refused.0 tt (offers_valid are offers)

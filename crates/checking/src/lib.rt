@@ -9,7 +9,6 @@ ghost use Rattle.checking.specs.Inner.{answer_text};
 
 use evidence::{Answer, Offer};
 use lent::Page;
-use pattern::Pattern;
 use text::{put_head, put_refusal};
 use verdict::Fault;
 
@@ -24,18 +23,10 @@ pub fn ask(
     ensures { Answers bytes.now (lists_of rows.old lefts.old rights.old) result (lists_of rows.new lefts.new rights.new) }
 {
     let file = evidencefile::read(bytes, rows, lefts, rights)?;
-    let found = file.pattern;
-    let count = found.states * found.letters;
-    let pattern = Pattern {
-        states: found.states,
-        letters: found.letters,
-        finals: found.finals,
-        rows: &rows[..count],
-    };
     let offer = Offer {
-        pattern,
-        x: found.x,
-        y: found.y,
+        pattern: file.pattern.pattern(rows),
+        x: file.pattern.x,
+        y: file.pattern.y,
         lefts: &lefts[..file.pairs],
         rights: &rights[..file.pairs],
     };

@@ -142,7 +142,7 @@ fn propose(question: &Question, listed: &Pairs, examined: usize) -> Candidate
 }
 
 // Writes the letters from the start to record `from`, one of the first `kept`, and `last` after them; gives how many they are.
-// The way up is gone twice, to count the letters and then to write them from the end: no second buffer.
+// The way up is gone twice, to count the letters and then to write them from the end: no second buffer. By `while`: each record names the next.
 fn spell(tables: &mut Tables, kept: usize, from: usize, last: u8) -> usize
     requires { Spellable (take kept tables.old.parents.now) (take kept tables.old.taken.now) from tables.old.sequence.now }
     ensures { Spells tables.old kept from last result tables.new }
@@ -215,7 +215,7 @@ fn deal(
     Dealt::On(kept + 1)
 }
 
-// The walk of a question that is not refused: one candidate after another, until none is left.
+// The walk of a question that is not refused: one candidate after another, until none is left. By `while`: each record kept adds candidates.
 #[inline(always)]
 fn run(question: &Question, room: usize, tables: &mut Tables) -> Answer
     requires { compare_test (call_in question.now room tables.old) ≡ Fine }

@@ -49,6 +49,7 @@ impl Pairs<'_> {
     }
 
     // The set grown by the listed pairs toward a goal: passes until one adds nothing, as it does where the goal lies within.
+    // By `loop`: how many passes that takes shows only when it ends.
     pub fn grow(&self, set: u64, goal: u64) -> u64
         ensures { Toward (listed_in self.now) set goal result }
     {

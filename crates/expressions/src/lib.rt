@@ -257,7 +257,7 @@ fn peek(text: &[u8], at: usize) -> Look
     }
 }
 
-// The marks after a factor.
+// The marks after a factor. By `while`, as in `sequence` and `alternation`: each token says whether another part follows.
 fn marks(text: &[u8], mut x: Piece, tables: &mut Tables) -> Piece
     requires { Looks text.now x.next }
     ensures { Marked text.now x tables.old tables.new result }

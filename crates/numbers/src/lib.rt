@@ -33,7 +33,7 @@ fn byte_test(i: usize, b: u64) -> Result<(), Refusal>
     need(i < 9 || b == 1, Refusal::TooBig)
 }
 
-// Who goes on behind the number adds how many bytes it took to its place.
+// Who goes on behind the number adds how many bytes it took to its place. Bytes and a place, no cursor: a refusal names the place.
 pub fn read(bytes: &[u8], at: usize) -> Result<Taken, Fault>
     ensures { told_read result ≡ read_at bytes.now at }
 {
@@ -89,7 +89,7 @@ pub fn no_tail(bytes: &[u8], place: usize) -> Result<(), Fault>
     )
 }
 
-// How many bytes v takes.
+// How many bytes v takes. By `while`, as in `write`: what is left of v says whether a byte follows.
 pub fn size(v: u64) -> usize
     ensures { result ≡ length (encode v) }
 {

@@ -138,7 +138,7 @@ impl Shaped<'_> {
     ghost use Rattle.pattern.specs.Language;
     ghost use Rattle.pattern.specs.Lent.{pattern_in};
 
-    // The set that `letter` takes `set` to.
+    // The set that `letter` takes `set` to. By `while` over the states that are left: a `for` would look at the others too.
     pub fn next(&self, set: u64, letter: usize) -> u64
         requires { letter < self.now.pattern.letters }
         ensures { result ≡ Language.next (pattern_in self.now.pattern) set letter }

@@ -1,7 +1,7 @@
 // The pattern file: n, k, finals, the n * k rows, X, Y; read and written.
 #![tactic(auto)]
 
-ghost use Rattle.std.specs.Prelude.{◌≡◌, length};
+ghost use Rattle.std.specs.Prelude.{◌≡◌, ◌≤◌, ◌*◌, length, take};
 ghost use Rattle.verdict.specs.Refusals.{said};
 ghost use Rattle.lent.specs.Page.{HasRoomFor, Puts};
 ghost use Rattle.pattern.specs.Lent.{pattern_in};
@@ -10,13 +10,13 @@ ghost use Rattle.numbers.specs.Numbers.{number_at};
 ghost use Rattle.numbers.specs.Format.{held_to, reading, many, ended};
 ghost use Rattle.numbers.specs.Told.{told_number};
 ghost use Rattle.patternfile.specs.PatternFile.{file_bytes};
-ghost use Rattle.patternfile.specs.Reader.{Reads};
+ghost use Rattle.patternfile.specs.Reader.{with_rows, Reads};
 ghost use Rattle.patternfile.specs.Writer.{write_test, Writes};
 ghost use Rattle.patternfile.specs.Parts.{Judges, Passes, Filled};
 
 use lent::Page;
 use numbers::Placed;
-use pattern::Question;
+use pattern::{Pattern, Question};
 use verdict::{Fault, Refusal, need};
 
 // The numbers of a file beside its rows.
@@ -27,6 +27,21 @@ pub struct PatternNumbers {
     pub finals: u64,
     pub x: u64,
     pub y: u64,
+}
+
+impl PatternNumbers {
+    // The pattern of the numbers and of its rows, the first of those that the file was read into.
+    pub fn pattern<'a>(&self, rows: &'a [u64]) -> Pattern<'a>
+        requires { self.now.states * self.now.letters ≤ length rows.now }
+        ensures { pattern_in result ≡ with_rows self.now (take (self.now.states * self.now.letters) rows.now) }
+    {
+        Pattern {
+            states: self.states,
+            letters: self.letters,
+            finals: self.finals,
+            rows: &rows[..self.states * self.letters],
+        }
+    }
 }
 
 // What the first pass finds: the pattern's numbers, and the place after them.

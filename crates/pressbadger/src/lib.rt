@@ -1,4 +1,5 @@
 // The host's face: the calls that C and Rust programs make. `include/pressbadger.h` is their manual.
+// Numbers and lists stand in a call one by one, and what a field does not tell is 0: that is the C interface.
 #![tactic(auto)]
 
 ghost use Rattle.std.specs.Prelude.{◌≡◌};

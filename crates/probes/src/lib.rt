@@ -1,4 +1,4 @@
-// Exports for tests alone: what the host does not call.
+// Exports for tests alone: what the host does not call. Numbers and lists stand in a call one by one: the C interface.
 #![tactic(auto)]
 
 ghost use Rattle.std.specs.Prelude.{◌≡◌, ◌^◌};

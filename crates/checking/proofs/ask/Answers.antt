@@ -1,5 +1,5 @@
 -- `checking::ask` reads the file and hands on its refusal, or checks its pairs and hands on the answer.
-use Rattle.std.proofs.Common.{◌≡◌, ℕ, ◌*◌, ◌≤◌, List, length, get_or, Fits, w8, rules, Err, arith, sym}
+use Rattle.std.proofs.Common.{◌≡◌, ℕ, ◌≤◌, List, length, get_or, Fits, w8, rules, Err, arith, sym}
 use lib.Seq.{length-take-le}
 use Rattle.numbers.specs.Numbers.{AreBytes}
 use Rattle.evidencefile.specs.EvidenceFile.{Lists, lists_of}
@@ -15,33 +15,28 @@ returns-in_err-file c =
     rw e (refused_answers _ _ _ (as_bytes c.type_inv.bytes) c.requires c.in_err-file.ensures)
 
 -- what is lent, and what the reader left
-old : goal.After-found-1 → Lists
+old : goal.After-pattern → Lists
 old c = lists_of c.args.rows.now c.args.lefts.now c.args.rights.now
 
-left : goal.After-found-1 → Lists
+left : goal.After-pattern → Lists
 left c = lists_of c.read.new.rows c.read.new.lefts c.read.new.rights
 
-rows_there : (c : goal.After-found-1) → c.in_ok-file.file.pattern.states * c.in_ok-file.file.pattern.letters ≤ length c.args.rows.now
-unfolding old left
-rows_there c = few_rows c.args.bytes.now (old c) (left c) (as_bytes c.type_inv.bytes) c.requires c.in_ok-file.ensures
-
-lefts_there : (c : goal.After-found-1) → c.in_ok-file.file.pairs ≤ length c.args.lefts.now
+lefts_there : (c : goal.After-pattern) → c.in_ok-file.file.pairs ≤ length c.args.lefts.now
 unfolding old left
 lefts_there c = few_lefts c.args.bytes.now (old c) (left c) (as_bytes c.type_inv.bytes) c.requires c.in_ok-file.ensures
 
-rights_there : (c : goal.After-found-1) → c.in_ok-file.file.pairs ≤ length c.args.rights.now
+rights_there : (c : goal.After-pattern) → c.in_ok-file.file.pairs ≤ length c.args.rights.now
 unfolding old left
 rights_there c = few_rights c.args.bytes.now (old c) (left c) (as_bytes c.type_inv.bytes) c.requires c.in_ok-file.ensures
 
-pub overflow_mul-count : goal.overflow_mul-count
-overflow_mul-count c = omega (arith, rows_there c, c.requires.rows_are)
-
-pub slice_bounds-pattern-end : goal.slice_bounds-pattern-end
-slice_bounds-pattern-end c = omega (arith, rows_there c, c.read.auto.rows)
-
-pub slice_bounds-pattern-end-2 : goal.slice_bounds-pattern-end-2
-slice_bounds-pattern-end-2 c =
-    sym (length-take-le (c.in_ok-file.file.pattern.states * c.in_ok-file.file.pattern.letters) c.read.new.rows (omega (arith, rows_there c, c.read.auto.rows)))
+pub pattern-requires : goal.pattern-requires
+pattern-requires c =
+    omega (
+      arith,
+      few_rows c.args.bytes.now (lists_of c.args.rows.now c.args.lefts.now c.args.rights.now) (lists_of c.read.new.rows c.read.new.lefts c.read.new.rights)
+          (as_bytes c.type_inv.bytes) c.requires c.in_ok-file.ensures,
+      c.read.auto.rows,
+    )
 
 pub slice_bounds-offer-end : goal.slice_bounds-offer-end
 slice_bounds-offer-end c = omega (arith, lefts_there c, c.read.auto.lefts)
@@ -59,9 +54,9 @@ pub returns-in_err-check : goal.returns-in_err-check
 returns-in_err-check c =
     absurd
     (accepted_checked c.args.bytes.now (lists_of c.args.rows.now c.args.lefts.now c.args.rights.now) (lists_of c.read.new.rows c.read.new.lefts c.read.new.rights)
-    (as_bytes c.type_inv.bytes) c.requires c.in_ok-file.ensures c.in_err-check.ensures)
+    (as_bytes c.type_inv.bytes) c.requires c.in_ok-file.ensures c.pattern.ensures c.in_err-check.ensures)
 
 pub returns : goal.returns
 returns c =
     accepted_answers c.args.bytes.now (lists_of c.args.rows.now c.args.lefts.now c.args.rights.now) (lists_of c.read.new.rows c.read.new.lefts c.read.new.rights)
-    (as_bytes c.type_inv.bytes) c.requires c.in_ok-file.ensures c.in_ok-check.ensures
+    (as_bytes c.type_inv.bytes) c.requires c.in_ok-file.ensures c.pattern.ensures c.in_ok-check.ensures
