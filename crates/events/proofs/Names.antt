@@ -1,5 +1,5 @@
 -- What the names are: none is empty, none is longer than nine bytes, and no two of letters below 32 are alike. Assumes nothing.
-use mathlib.Core.Path.{◌≡◌, refl, sym}
+use mathlib.Core.Path.{◌≡◌, refl, sym, ap}
 use mathlib.Core.Bool.{Bool, not, ◌&&◌}
 use mathlib.Core.List.{List, ◌++◌, map}
 use Prim.Native.Nat.{ℕ, ◌<◌, ◌≤◌}
@@ -25,10 +25,13 @@ name_numbered a h = record { parts = name_high a h }
 pub bytes_at : (table : List (Bor (List ℕ))) (i : ℕ) (d : Bor (List ℕ)) → (get_or table i d).now ≡ get_or (map (λ (x : Bor (List ℕ)). x.now) table) i d.now
 bytes_at table i d = sym (get_or-map (λ (x : Bor (List ℕ)). x.now) table i d)
 
--- each of the twelve stands at its letter
-pub name_at : (a : ℕ) (d : List ℕ) → a < 12 → get_or names a d ≡ event_name a
+-- each of the twelve stands at its letter, in its length
+pub row_is : (a : ℕ) (d : List ℕ) → a < 12 → get_or names a d ≡ event_name a
 unfolding event_name names
-name_at a d h = get_or_default names a d (word "E" ++ decimal a) h
+row_is a d h = get_or_default names a d (word "E" ++ decimal a) h
+
+pub length_is : (a : ℕ) (d : List ℕ) → a < 12 → length (get_or names a d) ≡ length (event_name a)
+length_is a d h = ap length (row_is a d h)
 
 -- a name has one to nine bytes
 fair : ℕ → Bool

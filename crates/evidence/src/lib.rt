@@ -11,7 +11,7 @@ use pattern::{Pattern, Shaped};
 use sets::States;
 use verdict::{Refusal, need};
 
-// What the check of an offer answers that is not refused; NOT-PROVED has its place. No `Option`: nothing was looked for and found.
+// What the check of an offer answers that is not refused; NOT-PROVED has its place. No `Option`: these are the scope's two words.
 #[derive(Clone, Copy)]
 pub enum Answer {
     Proved,

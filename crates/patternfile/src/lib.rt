@@ -132,7 +132,7 @@ pub fn read(bytes: &[u8], rows: &mut [u64]) -> Result<PatternNumbers, Fault>
     Ok(found)
 }
 
-// How many bytes the pattern's numbers take.
+// How many bytes the file takes.
 pub fn file_size(question: &Question) -> usize
     ensures { result ≡ length (file_bytes (pattern_in question.now.pattern) question.now.x question.now.y) }
 {
@@ -158,7 +158,7 @@ fn write_test(question: &Question, room: usize) -> Result<(), Refusal>
     need(file_size(question) <= room, Refusal::NoRoom)
 }
 
-// Puts the bytes of the pattern's numbers.
+// Puts the bytes of the file.
 pub fn put_pattern(page: &mut Page, question: &Question)
     requires { HasRoomFor page.old (file_bytes (pattern_in question.now.pattern) question.now.x question.now.y) }
     ensures { Puts page.old (file_bytes (pattern_in question.now.pattern) question.now.x question.now.y) page.new }

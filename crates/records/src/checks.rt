@@ -23,7 +23,7 @@ pub fn shown(listed: usize) -> usize
     listed.min(MOST_SHOWN)
 }
 
-// The sides of the first `n` records.
+// The sides of the first `n` records. By index: three lists side by side.
 pub fn gather(records: &[PbRecord], n: usize, lefts: &mut [u64], rights: &mut [u64])
     requires lefts_fit { n ≤ length lefts.old }
     requires rights_fit { n ≤ length rights.old }

@@ -24,7 +24,7 @@ fn asked(room: usize, places: usize, listed: usize, bytes: usize) -> usize
     room.min(places)
 }
 
-// Writes the first `n` records of the tables.
+// Writes the first `n` records of the tables. By index: five lists side by side.
 pub fn fill(tables: &Tables, n: usize, records: &mut [PbRecord])
     requires columns_fit { Fit n (columns_lent tables.now) }
     requires list_fits { n ≤ length records.old }

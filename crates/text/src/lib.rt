@@ -14,7 +14,7 @@ fn digit(d: u64) -> u8
     b'0' + d as u8
 }
 
-// By hand: the library's `itoa` would be one more crate to believe for these six lines.
+// A number in decimal. By hand: the library's `itoa` would be one more crate to believe for these six lines.
 #[tactic(auto, using(crate::proofs::Decimal::last_length, crate::proofs::Decimal::more_length, lent::proofs::Filling::puts_length))]
 pub fn put_decimal(page: &mut Page, v: u64)
     requires { HasRoomFor page.old (decimal v) }

@@ -2,20 +2,20 @@
 use Rattle.std.proofs.Common.{ℕ, List, ap, ◌∙◌, Bor}
 use Rattle.lent.proofs.Filling.{puts_as, first_fits, second_fits, both_put}
 use Rattle.events.specs.Events.{names}
-use Rattle.events.proofs.Names.{name_numbered, bytes_at, name_at}
+use Rattle.events.proofs.Names.{name_numbered, bytes_at, row_is}
 use Rattle.events.proofs.put_name.Goals as goal
 
 pub put_bytes-requires : goal.put_bytes-requires
 unfolding names
 put_bytes-requires c =
     let found = rw bytes_at at (ap (λ (x : Bor (List ℕ)). x.now) c.in-Some.ensures.lookup.1) in
-    rw (found ∙ name_at c.args.letter _ c.in-Some.ensures.lookup.3.0) c.requires
+    rw (found ∙ row_is c.args.letter _ c.in-Some.ensures.lookup.3.0) c.requires
 
 pub returns-in-Some : goal.returns-in-Some
 unfolding names
 returns-in-Some c =
     let found = rw bytes_at at (ap (λ (x : Bor (List ℕ)). x.now) c.in-Some.ensures.lookup.1) in
-    puts_as c.put_bytes.ensures (found ∙ name_at c.args.letter _ c.in-Some.ensures.lookup.3.0)
+    puts_as c.put_bytes.ensures (found ∙ row_is c.args.letter _ c.in-Some.ensures.lookup.3.0)
 
 pub put_byte-requires : goal.put_byte-requires
 put_byte-requires c = first_fits c.requires (name_numbered c.args.letter c.in-None.ensures.lookup.3)
