@@ -1,27 +1,34 @@
 -- From what the reader and the comparison ensure to what is answered: a file that was read is never refused by the comparison. Assumes nothing.
 use mathlib.Core.Logic.{◌⊎◌, inl, inr}
-use mathlib.Core.Path.{◌≡◌, sym, subst}
+use mathlib.Core.Path.{◌≡◌, refl, sym, subst}
 use mathlib.Core.List.{List}
 use Prim.Native.Nat.{ℕ, ◌*◌, ◌≤◌}
 use lib.ListN.{length, take}
-use Rattle.verdict.specs.declared.Verdict.TheVariants.{Fine}
+use Rattle.verdict.specs.Verdict.Verdict.{Fine}
 use Rattle.verdict.proofs.Ordered.{apart}
 use Rattle.lent.specs.Lent.{lay}
 use Rattle.numbers.specs.Numbers.{AreBytes}
-use Rattle.patternfile.specs.declared.PatternRead.{PatternRead}
-use Rattle.patternfile.specs.declared.PatternRead.TheVariants as Read
-use Rattle.patternfile.specs.Reader.{ReadDone, ReadRefused, Reads}
+use Rattle.std.specs.Prelude.{Ok, Err}
+use Rattle.verdict.specs.declared.Refusal.{Refusal}
+use Rattle.verdict.specs.declared.Refusal.TheVariants.{BadSize, BadSet, NoRoom, Cut, Padded, Tail, TooBig}
+use Rattle.verdict.specs.declared.Fault.{Fault}
+use Rattle.verdict.specs.Refusals.{number}
+use Rattle.patternfile.specs.declared.PatternNumbers.{PatternNumbers}
+use Rattle.patternfile.specs.Reader.{with_rows, ReadDone, ReadRefused}
+use Rattle.patternfile.specs.Refusals.{RefusedAt}
+use Rattle.patternfile.specs.Refusals.RefusedAt.{bad_states, bad_letters, no_room, bad_set, cut, padded, tail, too_big}
+use Rattle.patternfile.proofs.Places.{refused_there}
 use Rattle.patternfile.proofs.Contents.{accepted_valid}
 use Rattle.patternfile.proofs.RoundTrip.{left_rows}
-use Rattle.walk.specs.Walk.{Question, question_of, kept_of, word_of}
+use Rattle.pattern.specs.Pattern.{Pattern}
+use Rattle.walk.specs.Walk.{Question, kept_of, word_of}
 use Rattle.walk.proofs.WalkEnds.{walk_ends}
 use Rattle.comparison.specs.declared.Answer.{Answer}
 use Rattle.comparison.specs.Answers.{number_of, Lent, compare_test, answer_of, lay_out, Compared}
 use Rattle.comparison.specs.Meaning.{Roomy, Honest}
 use Rattle.comparison.proofs.Asking.{compare_fine}
 use Rattle.comparison.proofs.CompareHonest.{compare_valid, compare_honest}
-use Rattle.asking.specs.declared.Asked.{Asked}
-use Rattle.asking.specs.Asking.{row_room, Asks, Refuses, call_for, Answers}
+use Rattle.asking.specs.Asking.{Asked, row_room, Asks, Refuses, call_for, Answers}
 use Rattle.asking.specs.Asking.Answers.{refuses, answers}
 use Rattle.asking.proofs.Questions.{asks_proper, asks_or_refuses}
 
@@ -32,20 +39,30 @@ module _ {input : List ℕ} {Q : Question} (are : AreBytes input) (asks : Asks i
   never_refused = (compare_fine (call_for Q room lent)).1 (asks_proper are asks, roomy)
 
   -- so its answer is the walk's outcome
-  pub answered : {answer : Answer} {l : Lent} → Compared (call_for Q room lent) answer l → (rows : List ℕ)
-      → Answers room input rows lent (Asked.Answered answer) (lay Q.pattern.rows rows) l
-  answered (Compared.refuses against) rows = apart never_refused against
+  pub answered : {answer : Answer} {l : Lent} → Compared (call_for Q room lent) (Ok answer) l → (rows : List ℕ)
+      → Answers room input rows lent (Ok answer) (lay Q.pattern.rows rows) l
   answered (Compared.walks fine walk) rows = answers asks walk
 
 -- ---- what an answer means
 
 pub answers_honest : {room : ℕ} {input rows : List ℕ} {lent : Lent} {answer : Answer} {rows' : List ℕ} {l : Lent} → AreBytes input → Roomy room lent
-    → Answers room input rows lent (Asked.Answered answer) rows' l → (Q : Question) × Asks input Q × (number_of answer ≤ 2) × Honest (call_for Q room lent) answer l
+    → Answers room input rows lent (Ok answer) rows' l → (Q : Question) × Asks input Q × (number_of (Ok answer) ≤ 2) × Honest (call_for Q room lent) (Ok answer) l
 answers_honest {room} {lent = lent} are roomy (answers {Q} {o} a w) =
     let compared : Compared (call_for Q room lent) (answer_of o) (lay_out (kept_of o) (word_of o) lent) = Compared.walks (never_refused are a roomy) w in
     (Q, a, compare_valid (asks_proper are a, roomy) compared, compare_honest compared)
 
 -- ---- every input has its answer
+
+-- the code names the refusal of every input that is refused
+refusal_named : {room : ℕ} {s : List ℕ} {w place : ℕ} → RefusedAt room s w place → (why : Refusal) × (number why ≡ w)
+refusal_named (bad_states q h) = (BadSize, refl)
+refusal_named (bad_letters q h) = (BadSize, refl)
+refusal_named (no_room p q h) = (NoRoom, refl)
+refusal_named (bad_set p q h) = (BadSet, refl)
+refusal_named (cut h) = (Cut, refl)
+refusal_named (padded h) = (Padded, refl)
+refusal_named (tail P x y l f) = (Tail, refl)
+refusal_named (too_big h) = (TooBig, refl)
 
 pub always_answered : (room : ℕ) (input rows : List ℕ) (lent : Lent) → AreBytes input → (a : Asked) × (rows' : List ℕ) × (l : Lent) × Answers room input rows lent a rows' l
 always_answered room input rows lent are = pick (asks_or_refuses input are)
@@ -53,46 +70,50 @@ always_answered room input rows lent are = pick (asks_or_refuses input are)
     pick : ((Q : Question) × Asks input Q) ⊎ ((number : ℕ) × (place : ℕ) × Refuses input number place)
         → (a : Asked) × (rows' : List ℕ) × (l : Lent) × Answers room input rows lent a rows' l
     pick (inl (Q, a)) = let (o, w) = walk_ends Q (asks_proper are a) room in (_, _, _, answers a w)
-    pick (inr (number, place, r)) = (_, _, _, refuses r)
+    pick (inr (w, place, r)) = let (why, z) = refusal_named (refused_there are r) in (_, _, _, refuses {fault = record { why = why; place = place }} (rw (← z) at r))
 
 -- ---- a file that was refused
 
-pub refused_answers : (input rows new : List ℕ) {read : PatternRead} {number place : ℕ} → length rows ≡ row_room → Reads input rows read new → read ≡ Read.Refused number place
-    → (room : ℕ) (lent : Lent) → Answers room input rows lent (Asked.Refused number place) new lent
-refused_answers input rows new {number = number} {place} size reads q room lent =
-    let told : ReadRefused input rows number place new = subst (λ (z : PatternRead). Reads input rows z new) q reads in
-    let fault : Refuses input number place = rw (← size) told.fault in
-    rw told.unchanged (refuses fault)
+pub refused_answers : (input rows new : List ℕ) {fault : Fault} → length rows ≡ row_room → ReadRefused input rows (number fault.why) fault.place new
+    → (room : ℕ) (lent : Lent) → Answers room input rows lent (Err fault) new lent
+refused_answers input rows new {fault} size told room lent =
+    let refused : Refuses input (number fault.why) fault.place = rw (← size) told.fault in
+    rw told.unchanged (refuses refused)
 
 -- ---- a file that was read
 
-pub record Accepted (input rows : List ℕ) (n k f x y : ℕ) (new : List ℕ) : Type 0 where
+pub record Accepted (input rows : List ℕ) (f : PatternNumbers) (new : List ℕ) : Type 0 where
   pub bytes : AreBytes input
   pub size : length rows ≡ row_room
-  pub done : ReadDone input rows n k f x y new
+  pub done : ReadDone input rows f new
 
-pub accepted : (input rows new : List ℕ) {read : PatternRead} {n k f x y : ℕ} → AreBytes input → length rows ≡ row_room → Reads input rows read new → read ≡ Read.Done n k f x y
-    → Accepted input rows n k f x y new
-accepted input rows new bytes size reads q = record { bytes = bytes; size = size; done = subst (λ (z : PatternRead). Reads input rows z new) q reads }
-
-module _ {input rows : List ℕ} {n k f x y : ℕ} {new : List ℕ} (t : Accepted input rows n k f x y new) where
-  pub few_rows : n * k ≤ length rows
+module _ {input rows : List ℕ} {f : PatternNumbers} {new : List ℕ} (t : Accepted input rows f new) where
+  pub few_rows : f.states * f.letters ≤ length rows
   few_rows = (accepted_valid t.bytes t.done.file).enough
 
   -- the rows are those of the file
-  rows_read : take (n * k) new ≡ t.done.rows
+  rows_read : take (f.states * f.letters) new ≡ t.done.rows
   rows_read = left_rows t.bytes t.done
 
-  abbrev question : Question
-  question = question_of n k f (take (n * k) new) x y
+  abbrev pattern : Pattern
+  pattern = with_rows f (take (f.states * f.letters) new)
 
-  asks : Asks input question
+  abbrev question : Pattern → Question
+  question P = record { pattern = P; left = f.x; right = f.y }
+
+  asks : Asks input (question pattern)
   asks = rw (rows_read, ← t.size) t.done.file
 
-  rows_laid : new ≡ lay (take (n * k) new) rows
+  rows_laid : new ≡ lay (take (f.states * f.letters) new) rows
   rows_laid = rw rows_read t.done.written
 
-  pub accepted_answers : {room : ℕ} {lent : Lent} → Roomy room lent → {answer : Answer} {l : Lent} → Compared (call_for question room lent) answer l
-      → Answers room input rows lent (Asked.Answered answer) new l
-  accepted_answers {room} {lent} roomy {answer} {l} compared =
-      subst (λ (s : List ℕ). Answers room input rows lent (Asked.Answered answer) s l) (sym rows_laid) (answered t.bytes asks roomy compared rows)
+  module _ {P : Pattern} (found : P ≡ pattern) {room : ℕ} {lent : Lent} (roomy : Roomy room lent) where
+    pub accepted_answers : {answer : Answer} {l : Lent} → Compared (call_for (question P) room lent) (Ok answer) l → Answers room input rows lent (Ok answer) new l
+    accepted_answers {answer} {l} compared =
+        subst (λ (s : List ℕ). Answers room input rows lent (Ok answer) s l) (sym rows_laid)
+        (answered t.bytes asks roomy (subst (λ (P : Pattern). Compared (call_for (question P) room lent) (Ok answer) l) found compared) rows)
+
+    -- the comparison refuses no file that was read
+    pub accepted_compared : {why : Refusal} {l : Lent} → Compared (call_for (question P) room lent) (Err why) l → ⊥
+    accepted_compared (Compared.refuses against) =
+        apart (subst (λ (P : Pattern). compare_test (call_for (question P) room lent) ≡ Fine) (sym found) (never_refused t.bytes asks roomy)) against

@@ -12,8 +12,7 @@ use Rattle.patternfile.specs.PatternFile.{numbers_of, pattern_format}
 use Rattle.patternfile.proofs.Longest.{cap_changes_nothing}
 use Rattle.walk.specs.Walk.{Question}
 use Rattle.comparison.specs.Answers.{Lent}
-use Rattle.asking.specs.declared.Asked.{Asked}
-use Rattle.asking.specs.Asking.{row_room, Asks, Refuses, Answers}
+use Rattle.asking.specs.Asking.{Asked, row_room, Asks, Refuses, Answers}
 use Rattle.asking.specs.Asking.Answers.{refuses, answers}
 
 module _ {s : List ℕ} (are : AreBytes s) where

@@ -4,9 +4,11 @@ use mathlib.Core.List.{List}
 use Prim.Native.Nat.{ℕ}
 use Rattle.walk.specs.Walk.{Question, Outcome, kept_of, word_of, Walk}
 use Rattle.walk.proofs.WalkUnique.{walk_unique}
-use Rattle.comparison.specs.Answers.{Lent, answer_of, lay_out}
-use Rattle.asking.specs.declared.Asked.{Asked}
-use Rattle.asking.specs.Asking.{Asks, Answers}
+use Rattle.std.specs.Prelude.{Ok, Err}
+use Rattle.verdict.specs.declared.Fault.{Fault}
+use Rattle.verdict.proofs.Refusals as Named
+use Rattle.comparison.specs.Answers.{Lent, outcome_answer, lay_out}
+use Rattle.asking.specs.Asking.{Asked, Asks, Answers}
 use Rattle.asking.specs.Asking.Answers.{refuses, answers}
 use Rattle.asking.proofs.Questions.{asks_one, asked_or_refused, one_refusal}
 
@@ -16,10 +18,13 @@ one_outcome {room} {p = p} a b v w = walk_unique v (subst (λ (Q : Question). Wa
 -- whatever was lent
 pub one_answer : {room : ℕ} {input rows rows' : List ℕ} {lent lent' : Lent} {a a' : Asked} {r r' : List ℕ} {l l' : Lent}
     → Answers room input rows lent a r l → Answers room input rows' lent' a' r' l' → a ≡ a'
-one_answer {input = input} (refuses r) (refuses s) = let (number, place) = one_refusal input r s in rw (number, place)
+one_answer {input = input} (refuses {fault} r) (refuses {fault = fault'} s) =
+    let (w, place) = one_refusal input r s in
+    let why = Named.one_refusal w in
+    ap (λ (f : Fault). Err f) (λ i. record { why = why i; place = place i })
 one_answer (refuses r) (answers a w) = absurd (asked_or_refused a r)
 one_answer (answers a w) (refuses r) = absurd (asked_or_refused a r)
-one_answer (answers a v) (answers b w) = ap (λ (o : Outcome). Asked.Answered (answer_of o)) (one_outcome a b v w)
+one_answer (answers a v) (answers b w) = ap (λ (o : Outcome). Ok (outcome_answer o)) (one_outcome a b v w)
 
 left_alike : {room : ℕ} {input rows : List ℕ} {lent : Lent} {a a' : Asked} {r r' : List ℕ} {l l' : Lent}
     → Answers room input rows lent a r l → Answers room input rows lent a' r' l' → (r ≡ r') × (l ≡ l')

@@ -10,17 +10,19 @@
 --   Suffices room rows lent
 --                           the row buffer, and a room that is allowed and lent: the comparison then refuses no file that was read (`never_refused`)
 --   call_for Q room lent    the comparison of a question
---   Lends, AnswersFile      what is lent when the call begins; what is answered and left, of the slices lent
-use Rattle.std.specs.Prelude.{◌≡◌, List, ℕ, ◌*◌, length}
-use Rattle.std.specs.Borrow.{MutBor}
-use Rattle.lent.specs.Lent.{Slice, before, after, lay}
+--   AnswersFile             what is answered and left, of the code's tables
+use Rattle.std.specs.Prelude.{◌≡◌, List, ℕ, ◌*◌, length, Result, Ok, Err}
+use Rattle.verdict.specs.declared.Fault.{Fault}
+use Rattle.verdict.specs.Refusals.{number}
+use Rattle.lent.specs.Lent.{lay}
 use Rattle.numbers.specs.Format.{refused, file_reading}
 use Rattle.patternfile.specs.PatternFile.{pattern_format}
 use Rattle.patternfile.specs.Reader.{FileOf}
 use Rattle.walk.specs.Walk.{Question, Outcome, kept_of, word_of, Walk}
-use Rattle.comparison.specs.Answers.{Lent, lent_of, Call, answer_of, lay_out, lent_before, lent_after}
+use Rattle.comparison.specs.Answers.{Lent, Call, outcome_answer, lay_out, lent_in, SameTables}
+use Rattle.comparison.specs.declared.Answer.{Answer}
+use Rattle.comparison.specs.declared.Tables.{Tables}
 use Rattle.comparison.specs.Meaning.{Roomy}
-use Rattle.asking.specs.declared.Asked.{Asked}
 
 -- a row for each of 64 states and 32 letters: no pattern finds too little room
 abbrev pub row_room : ℕ
@@ -30,25 +32,27 @@ abbrev pub Asks : List ℕ → Question → Type 0
 Asks input Q = FileOf row_room input Q.pattern Q.left Q.right
 
 abbrev pub Refuses : List ℕ → ℕ → ℕ → Type 0
-Refuses input number place = file_reading (pattern_format row_room) input ≡ refused number place
+Refuses input w place = file_reading (pattern_format row_room) input ≡ refused w place
 
 -- the comparison of a question
 abbrev pub call_for : Question → ℕ → Lent → Call
 call_for Q room lent = record { question = Q; room = room; lent = lent }
 
+-- the comparison's answer, or the reader's refusal and its place
+abbrev pub Asked : Type 0
+Asked = Result Answer Fault
+
 -- a refusal changes nothing; else the rows, the records and the sequence lie over what was there
 pub data Answers (room : ℕ) (input rows : List ℕ) (lent : Lent) : Asked → List ℕ → Lent → Type 0 where
-  refuses : {number place : ℕ} → Refuses input number place → Answers room input rows lent (Asked.Refused number place) rows lent
+  refuses : {fault : Fault} → Refuses input (number fault.why) fault.place → Answers room input rows lent (Err fault) rows lent
   answers : {Q : Question} {o : Outcome} → Asks input Q → Walk Q room o
-      → Answers room input rows lent (Asked.Answered (answer_of o)) (lay Q.pattern.rows rows) (lay_out (kept_of o) (word_of o) lent)
+      → Answers room input rows lent (Ok (outcome_answer o)) (lay Q.pattern.rows rows) (lay_out (kept_of o) (word_of o) lent)
 
 pub record Suffices (room : ℕ) (rows : List ℕ) (lent : Lent) : Type 0 where
   pub rows_fit : length rows ≡ row_room
   pub roomy : Roomy room lent
 
-abbrev pub Lends : ℕ → MutBor (List ℕ) → MutBor (List ℕ) → MutBor (List ℕ) → MutBor (List ℕ) → MutBor (List ℕ) → MutBor (List ℕ) → Type 0
-Lends room rows lefts rights parents taken sequence = Suffices room rows.now (lent_of lefts.now rights.now parents.now taken.now sequence.now)
-
-abbrev pub AnswersFile : List ℕ → ℕ → Slice → Slice → Slice → Slice → Slice → Slice → Asked → Type 0
-AnswersFile bytes room rows lefts rights parents taken sequence asked =
-    Answers room bytes (before rows) (lent_before lefts rights parents taken sequence) asked (after rows) (lent_after lefts rights parents taken sequence)
+-- the same, of the code's tables, which are of the same slices
+pub record AnswersFile (bytes : List ℕ) (room : ℕ) (rows : List ℕ) (old : Tables) (asked : Asked) (rows' : List ℕ) (new : Tables) : Type 0 where
+  pub answers : Answers room bytes rows (lent_in old) asked rows' (lent_in new)
+  pub same_tables : SameTables old new

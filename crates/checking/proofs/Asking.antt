@@ -4,19 +4,24 @@ use mathlib.Core.Path.{◌≡◌, refl, sym, ap, ◌∙◌, subst}
 use mathlib.Core.List.{List}
 use Prim.Native.Nat.{ℕ, ◌*◌, ◌≤◌}
 use native.Mathlib.Omega.{arith}
-use lib.ListN.{length}
+use lib.ListN.{length, take}
 use Rattle.numbers.specs.Numbers.{AreBytes}
 use Rattle.numbers.specs.Format.{Reading, got, refused, file_reading}
 use Rattle.numbers.proofs.Formats.{IsFile, file_write_after_read}
-use Rattle.evidence.specs.Evidence.{Offer, offer_of, ValidOffer, Checked}
+use Rattle.pattern.specs.Pattern.{Pattern}
+use Rattle.patternfile.specs.Reader.{with_rows}
+use Rattle.evidence.specs.Evidence.{Offer, ValidOffer, Checked}
 use Rattle.evidence.specs.declared.Answer.{Answer}
-use Rattle.evidencefile.specs.declared.EvidenceRead.{EvidenceRead}
-use Rattle.evidencefile.specs.declared.EvidenceRead.TheVariants as Read
+use Rattle.std.specs.Prelude.{Ok, Err}
+use Rattle.verdict.specs.declared.Refusal.{Refusal}
+use Rattle.verdict.specs.declared.Fault.{Fault}
+use Rattle.verdict.specs.Refusals.{number}
+use Rattle.evidence.proofs.CheckHonest.{check_honest}
+use Rattle.evidencefile.specs.declared.EvidenceNumbers.{EvidenceNumbers}
 use Rattle.evidencefile.specs.EvidenceFile.{Rooms, Lists, rooms_of, numbers_of, evidence_format}
-use Rattle.evidencefile.specs.Reader.{FileOf, ReadDone, ReadRefused, Reads}
+use Rattle.evidencefile.specs.Reader.{with_lists, FileOf, ReadDone, ReadRefused}
 use Rattle.evidencefile.proofs.Contents.{Accepted, accepted_valid, OfferOf, fits_offer}
-use Rattle.evidencefile.proofs.RoundTrip.{offer_in, left_offer}
-use Rattle.checking.specs.declared.Asked.{Asked}
+use Rattle.evidencefile.proofs.RoundTrip.{left_offer}
 use Rattle.checking.specs.Checking.{most_rooms, Offers, Refuses, Suffices, Answers}
 use Rattle.checking.specs.Checking.Answers.{refuses, answers}
 
@@ -43,33 +48,44 @@ rooms_path rows lefts rights i = record { rows = rows i; lefts = lefts i; rights
 most : {old : Lists} → Suffices old → rooms_of old ≡ most_rooms
 most size = rooms_path size.rows_are size.lefts_are size.rights_are
 
-module _ (input : List ℕ) (old new : Lists) (are : AreBytes input) (size : Suffices old) {read : EvidenceRead} (reads : Reads input old read new) where
-  pub refused_answers : {number place : ℕ} → read ≡ Read.Refused number place → Answers input old (Asked.Refused number place) new
-  refused_answers {number} {place} q =
-      let told : ReadRefused input old number place new = subst (λ (z : EvidenceRead). Reads input old z new) q reads in
-      let fault : Refuses input number place = subst (λ (r : Rooms). file_reading (evidence_format r) input ≡ refused number place) (most size) told.fault in
-      subst (Answers input old (Asked.Refused number place)) (sym told.unchanged) (refuses fault)
+module _ (input : List ℕ) (old new : Lists) (are : AreBytes input) (size : Suffices old) where
+  pub refused_answers : {fault : Fault} → ReadRefused input old (number fault.why) fault.place new → Answers input old (Err fault) new
+  refused_answers {fault} told =
+      let refuses_it : Refuses input (number fault.why) fault.place =
+      subst (λ (r : Rooms). file_reading (evidence_format r) input ≡ refused (number fault.why) fault.place) (most size) told.fault in
+      subst (Answers input old (Err fault)) (sym told.unchanged) (refuses refuses_it)
 
-  module _ {n k f x y m : ℕ} (q : read ≡ Read.Done n k f x y m) where
-    done : ReadDone input old n k f x y m new
-    done = subst (λ (z : EvidenceRead). Reads input old z new) q reads
-
+  module _ {f : EvidenceNumbers} (done : ReadDone input old f new) where
     abbrev found : Offer
-    found = offer_of n k f done.rows x y done.lefts done.rights
+    found = with_lists f done.rows done.lefts done.rights
 
     fits : Accepted (rooms_of old) found
     fits = accepted_valid are done.file
 
-    pub few_rows : n * k ≤ length old.rows
+    pub few_rows : f.pattern.states * f.pattern.letters ≤ length old.rows
     few_rows = fits.rows_fit
 
-    pub few_lefts : m ≤ length old.lefts
+    pub few_lefts : f.pairs ≤ length old.lefts
     few_lefts = omega (arith, fits.lefts_fit, done.counted)
 
-    pub few_rights : m ≤ length old.rights
+    pub few_rights : f.pairs ≤ length old.rights
     few_rights = omega (arith, fits.rights_fit, done.counted, done.file.paired)
 
-    pub accepted_answers : {a : Answer} → Checked (offer_in n k f x y m new) a → Answers input old (Asked.Answered a) new
-    accepted_answers {a} checked =
-        let offers : Offers input found = subst (λ (r : Rooms). FileOf r input found) (most size) done.file in
-        subst (Answers input old (Asked.Answered a)) (sym done.written) (answers offers (subst (λ (o : Offer). Checked o a) (left_offer done) checked))
+    offers : Offers input found
+    offers = subst (λ (r : Rooms). FileOf r input found) (most size) done.file
+
+    -- what is checked: the pattern is told by an equation
+    abbrev offered : Pattern → Offer
+    offered P = record { pattern = P; x = f.pattern.x; y = f.pattern.y; lefts = take f.pairs new.lefts; rights = take f.pairs new.rights }
+
+    module _ {P : Pattern} (whole : P ≡ with_rows f.pattern (take (f.pattern.states * f.pattern.letters) new.rows)) where
+      is_found : offered P ≡ found
+      is_found = ap offered whole ∙ left_offer done
+
+      pub accepted_answers : {a : Answer} → Checked (offered P) (Ok a) → Answers input old (Ok a) new
+      accepted_answers {a} checked =
+          subst (Answers input old (Ok a)) (sym done.written) (answers offers (subst (λ (o : Offer). Checked o (Ok a)) is_found checked))
+
+      -- the check refuses no file that was read
+      pub accepted_checked : {why : Refusal} → Checked (offered P) (Err why) → ⊥
+      accepted_checked {why} checked = (check_honest (subst (λ (o : Offer). Checked o (Err why)) is_found checked)).refused.0 tt (offers_valid are offers)

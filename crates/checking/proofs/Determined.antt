@@ -12,8 +12,11 @@ use Rattle.evidence.specs.declared.Answer.{Answer}
 use Rattle.evidence.proofs.Determined.{check_determined}
 use Rattle.evidencefile.specs.EvidenceFile.{Lists, lay_offer}
 use Rattle.evidencefile.proofs.Determined.{one_offer}
-use Rattle.checking.specs.declared.Asked.{Asked}
-use Rattle.checking.specs.Checking.{Offers, Refuses, Answers, not_proved_text, Prints, Reported}
+use Rattle.std.specs.Prelude.{Result, Ok, Err}
+use Rattle.verdict.specs.declared.Refusal.{Refusal}
+use Rattle.verdict.specs.declared.Fault.{Fault}
+use Rattle.verdict.proofs.Refusals as Named
+use Rattle.checking.specs.Checking.{Asked, Offers, Refuses, Answers, not_proved_text, Prints, Reported}
 use Rattle.checking.specs.Checking.Prints.{refuses, proved, not_proved}
 
 offered_or_refused : {A : Type 0} {input : List ℕ} {o : Offer} {number place : ℕ} → Offers input o → Refuses input number place → A
@@ -22,14 +25,17 @@ offered_or_refused f r = absurd (refused_got (sym r ∙ f.read))
 one_refusal : (input : List ℕ) {number place number' place' : ℕ} → Refuses input number place → Refuses input number' place' → (number ≡ number') × (place ≡ place')
 one_refusal input {number} {place} {number'} {place'} r s = let e : refused number place ≡ refused number' place' = sym r ∙ s in (cc, cc)
 
-one_answer : {input : List ℕ} {o p : Offer} {a b : Answer} → Offers input o → Offers input p → Checked o a → Checked p b → a ≡ b
+one_answer : {input : List ℕ} {o p : Offer} {a b : Result Answer Refusal} → Offers input o → Offers input p → Checked o a → Checked p b → a ≡ b
 one_answer {b = b} f g j k = check_determined j (subst (λ (o : Offer). Checked o b) (one_offer g f) k)
 
 pub answers_determined : {input : List ℕ} {old new new' : Lists} {a b : Asked} → Answers input old a new → Answers input old b new' → (a ≡ b) × (new ≡ new')
-answers_determined {input} (Answers.refuses r) (Answers.refuses s) = let (number, place) = one_refusal input r s in (rw (number, place) refl, refl)
+answers_determined {input} (Answers.refuses r) (Answers.refuses s) =
+    let (w, place) = one_refusal input r s in
+    let why = Named.one_refusal w in
+    (ap (λ (f : Fault). Err f) (λ i. record { why = why i; place = place i }), refl)
 answers_determined (Answers.refuses r) (Answers.answers f k) = offered_or_refused f r
 answers_determined (Answers.answers f k) (Answers.refuses r) = offered_or_refused f r
-answers_determined {old = old} (Answers.answers f j) (Answers.answers g k) = (ap Asked.Answered (one_answer f g j k), ap (λ (o : Offer). lay_offer o old) (one_offer f g))
+answers_determined {old = old} (Answers.answers {a = a} f j) (Answers.answers {a = b} g k) = (let e : ◌≡◌ {A = Result Answer Refusal} (Ok a) (Ok b) = one_answer f g j k in let z : a ≡ b = cc in ap (λ (r : Answer). Ok r) z, ap (λ (o : Offer). lay_offer o old) (one_offer f g))
 
 pub prints_determined : {input text text' : List ℕ} → Prints input text → Prints input text' → text ≡ text'
 prints_determined {input} (refuses r) (refuses s) = let (number, place) = one_refusal input r s in rw (number, place) refl

@@ -11,7 +11,9 @@
 --   Reported input old r new
 --                           the text stands at the start of the byte buffer, r bytes, and the rest is as it was (`reports_determined`)
 --   Leaves                  what all else that is lent holds then
-use Rattle.std.specs.Prelude.{◌≡◌, List, [], ◌∷◌, ℕ, ◌*◌, ◌≤◌, length, take}
+use Rattle.std.specs.Prelude.{◌≡◌, List, [], ◌∷◌, ℕ, ◌*◌, ◌≤◌, length, take, Result, Ok, Err}
+use Rattle.verdict.specs.declared.Fault.{Fault}
+use Rattle.verdict.specs.Refusals.{number}
 use Rattle.lent.specs.Lent.{Put}
 use Rattle.sets.specs.Rooms.{max_room}
 use Rattle.numbers.specs.Format.{refused, file_reading}
@@ -21,7 +23,6 @@ use Rattle.evidence.specs.declared.Answer.TheVariants.{Proved, NotProved}
 use Rattle.evidencefile.specs.EvidenceFile.{Rooms, Lists, lay_offer, evidence_format}
 use Rattle.evidencefile.specs.Reader.{FileOf}
 use Rattle.text.specs.Text.{word, decimal, line, refusal_text}
-use Rattle.checking.specs.declared.Asked.{Asked}
 
 -- a row for each of 64 states and 32 letters, and sides for as many pairs as a list may have
 abbrev pub most_rooms : Rooms
@@ -31,17 +32,21 @@ abbrev pub Offers : List ℕ → Offer → Type 0
 Offers input o = FileOf most_rooms input o
 
 abbrev pub Refuses : List ℕ → ℕ → ℕ → Type 0
-Refuses input number place = file_reading (evidence_format most_rooms) input ≡ refused number place
+Refuses input w place = file_reading (evidence_format most_rooms) input ≡ refused w place
 
 pub record Suffices (old : Lists) : Type 0 where
   pub rows_are : length old.rows ≡ 64 * 32
   pub lefts_are : length old.lefts ≡ max_room
   pub rights_are : length old.rights ≡ max_room
 
+-- the check's answer, or the reader's refusal and its place
+abbrev pub Asked : Type 0
+Asked = Result Answer Fault
+
 -- a refusal changes nothing; else the rows and the sides lie over what was there
 pub data Answers (input : List ℕ) (old : Lists) : Asked → Lists → Type 0 where
-  refuses : {number place : ℕ} → Refuses input number place → Answers input old (Asked.Refused number place) old
-  answers : {o : Offer} {a : Answer} → Offers input o → Checked o a → Answers input old (Asked.Answered a) (lay_offer o old)
+  refuses : {fault : Fault} → Refuses input (number fault.why) fault.place → Answers input old (Err fault) old
+  answers : {o : Offer} {a : Answer} → Offers input o → Checked o (Ok a) → Answers input old (Ok a) (lay_offer o old)
 
 unfoldable pub proved_text : List ℕ
 proved_text = line (word "PROVED" ∷ [])
@@ -51,8 +56,8 @@ not_proved_text place = line (word "NOT-PROVED" ∷ decimal place ∷ [])
 
 pub data Prints (input : List ℕ) : List ℕ → Type 0 where
   refuses : {number place : ℕ} → Refuses input number place → Prints input (refusal_text number place)
-  proved : {o : Offer} → Offers input o → Checked o Proved → Prints input proved_text
-  not_proved : {o : Offer} {place : ℕ} → Offers input o → Checked o (NotProved place) → Prints input (not_proved_text place)
+  proved : {o : Offer} → Offers input o → Checked o (Ok Proved) → Prints input proved_text
+  not_proved : {o : Offer} {place : ℕ} → Offers input o → Checked o (Ok (NotProved place)) → Prints input (not_proved_text place)
 
 -- REFUSED and two numbers of at most 20 digits
 abbrev pub longest : ℕ

@@ -1,67 +1,47 @@
 // The question of an evidence file: read, checked, and answered by the one line that `check` prints, put into a lent buffer.
 #![tactic(auto)]
 
-ghost use Rattle.std.specs.Prelude.{◌≡◌, ◌≤◌, length};
-ghost use Rattle.lent.specs.Lent.{Put};
+ghost use Rattle.std.specs.Prelude.{◌≤◌, length};
+ghost use Rattle.lent.specs.Page.{HasRoomFor, Puts};
 ghost use Rattle.evidencefile.specs.EvidenceFile.{lists_of};
 ghost use Rattle.checking.specs.Checking.{Suffices, Answers, longest, Reported, Leaves};
 ghost use Rattle.checking.specs.Inner.{answer_text};
 
-use evidence::Answer;
-use evidencefile::EvidenceRead;
+use evidence::{Answer, Offer};
+use lent::Page;
 use text::{put_head, put_refusal};
-
-// The check's answer, or the reader's refusal and its place.
-#[derive(Drop)]
-pub enum Asked {
-    Answered(Answer),
-    Refused(u8, usize),
-}
+use verdict::Fault;
 
 // Reads the file and checks its pairs; a file that was read is never refused by the check.
-pub fn ask(bytes: &[u8], rows: &mut [u64], lefts: &mut [u64], rights: &mut [u64]) -> Asked
+pub fn ask(
+    bytes: &[u8],
+    rows: &mut [u64],
+    lefts: &mut [u64],
+    rights: &mut [u64],
+) -> Result<Answer, Fault>
     requires { Suffices (lists_of rows.old lefts.old rights.old) }
     ensures { Answers bytes.now (lists_of rows.old lefts.old rights.old) result (lists_of rows.new lefts.new rights.new) }
 {
-    let file = evidencefile::read(bytes, rows, lefts, rights);
-    match file {
-        EvidenceRead::Refused(number, place) => Asked::Refused(number, place),
-        EvidenceRead::Done {
-            states,
-            letters,
-            finals,
-            x,
-            y,
-            pairs,
-        } => {
-            let count = states * letters;
-            let answer = evidence::check(
-                states,
-                letters,
-                finals,
-                &rows[..count],
-                x,
-                y,
-                &lefts[..pairs],
-                &rights[..pairs],
-            );
-            Asked::Answered(answer)
-        }
-    }
+    let file = evidencefile::read(bytes, rows, lefts, rights)?;
+    let offer = Offer {
+        pattern: file.pattern.pattern(rows),
+        x: file.pattern.x,
+        y: file.pattern.y,
+        lefts: &lefts[..file.pairs],
+        rights: &rights[..file.pairs],
+    };
+    Ok(offer.check()?)
 }
 
 // The line of the check's answer.
-fn put_answer(out: &mut [u8], answer: Answer) -> usize
-    requires { longest ≤ length out.old }
-    ensures { Put out.old 0 (answer_text answer) result out.new }
+#[tactic(auto, unfolding(crate::specs::Checking::proved_text))]
+fn put_answer(page: &mut Page, answer: Answer)
+    requires { HasRoomFor page.old (answer_text answer) }
+    ensures { Puts page.old (answer_text answer) page.new }
 {
     match answer {
-        Answer::Proved => put_head(out, 0, b"PROVED", &[]),
-        Answer::NotProved(place) => {
-            let places = [place as u64];
-            put_head(out, 0, b"NOT-PROVED", &places)
-        }
-        Answer::Refused(number) => put_refusal(out, 0, number, 0),
+        Answer::Proved => put_head(page, b"PROVED", &[]),
+        Answer::NotProved(place) => put_head(page, b"NOT-PROVED", &[place as u64]),
     }
 }
 
@@ -78,9 +58,10 @@ pub fn report(
     ensures reports { Reported bytes.now out.old result out.new }
     ensures leaves { Leaves bytes.now (lists_of rows.old lefts.old rights.old) (lists_of rows.new lefts.new rights.new) }
 {
-    let asked = ask(bytes, rows, lefts, rights);
-    match asked {
-        Asked::Refused(number, place) => put_refusal(out, 0, number, place),
-        Asked::Answered(answer) => put_answer(out, answer),
+    let mut page = Page { out, at: 0 };
+    match ask(bytes, rows, lefts, rights) {
+        Ok(answer) => put_answer(&mut page, answer),
+        Err(Fault { why, place }) => put_refusal(&mut page, u8::from(why), place),
     }
+    page.at
 }

@@ -1,6 +1,7 @@
 // `compare`: takes in one pattern file from standard input and prints what the report says of it in the default room.
 #![tactic(auto)]
 
+use comparison::Tables;
 use sets::States;
 use std::io::Write;
 
@@ -8,11 +9,13 @@ fn main(rt: HostRuntime) {
     // One byte more than the longest file: what comes after it changes nothing.
     let mut bytes = [0u8; 20513];
     let mut rows = [0u64; 2048];
-    let mut lefts = [0u64; States::DEFAULT_ROOM];
-    let mut rights = [0u64; States::DEFAULT_ROOM];
-    let mut parents = [0u16; States::DEFAULT_ROOM];
-    let mut taken = [0u8; States::DEFAULT_ROOM];
-    let mut sequence = [0u8; States::DEFAULT_ROOM];
+    let mut tables = Tables {
+        lefts: &mut [0; States::DEFAULT_ROOM],
+        rights: &mut [0; States::DEFAULT_ROOM],
+        parents: &mut [0; States::DEFAULT_ROOM],
+        taken: &mut [0; States::DEFAULT_ROOM],
+        sequence: &mut [0; States::DEFAULT_ROOM],
+    };
     let mut out = [0u8; 74 + 42 * States::DEFAULT_ROOM];
     let mut stdin = rt.stdin();
     let count = input::take_in(&mut stdin, &mut bytes);
@@ -20,11 +23,7 @@ fn main(rt: HostRuntime) {
         &bytes[..count],
         States::DEFAULT_ROOM,
         &mut rows,
-        &mut lefts,
-        &mut rights,
-        &mut parents,
-        &mut taken,
-        &mut sequence,
+        &mut tables,
         &mut out,
     );
     let mut output = rt.stdout();

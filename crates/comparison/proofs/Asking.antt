@@ -1,4 +1,4 @@
--- The tests of a comparison: their order, and that a call is refused exactly where a line applies, by the first, and only by 10, 11, 13, 12.
+-- The tests of a comparison: a call is refused exactly where a line applies, by the first, and only by 10, 11, 13, 12.
 -- Assumes nothing.
 use mathlib.Core.Path.{◌≡◌, refl, ◌∙◌}
 use mathlib.Core.Logic.{◌↔◌}
@@ -7,16 +7,16 @@ use Prim.Native.Nat.{ℕ, ◌≤◌}
 use lib.ListN.{length}
 use lib.Dec.{leb}
 use borrow.Author.Tests.{leb-true, le-leb}
-use Rattle.verdict.specs.declared.Verdict.{Verdict}
-use Rattle.verdict.specs.declared.Verdict.TheVariants.{Fine, Against}
+use Rattle.verdict.specs.Verdict.{Verdict}
+use Rattle.verdict.specs.Verdict.Verdict.{Fine, Against}
 use Rattle.verdict.specs.Tests.{need, in_order, each, Among}
 use Rattle.verdict.specs.Lines.{NoneApplies, GoesBy}
 use Rattle.verdict.specs.Lines.Lines.{none, line}
-use Rattle.verdict.proofs.Ordered.{need_holds, need_fine, order_fine, order_stop, order_next, order_last}
+use Rattle.verdict.proofs.Ordered.{need_holds, need_fine, order_fine, order_next}
 use Rattle.verdict.proofs.Numbered.{among_need, among_each, among_from}
 use Rattle.verdict.proofs.Lines.{one_line, no_lines, lines_then, same_number, lines_among}
 use Rattle.sets.specs.Rooms.{max_room}
-use Rattle.pattern.specs.Tests.{set_test, shape_test, masks_test}
+use Rattle.pattern.specs.Tests.{set_test}
 use Rattle.pattern.specs.Refusals.{shape_lines}
 use Rattle.pattern.proofs.Refusals.{set_line, masks_line, shape_lines_lem}
 use Rattle.walk.specs.Walk.{Question}
@@ -24,35 +24,6 @@ use Rattle.walk.specs.Columns.{lengths}
 use Rattle.walk.proofs.Columns.{fit_at, fit_by, in_lengths, of_lengths}
 use Rattle.comparison.specs.Answers.{Lent, Call, room_test, compare_test}
 use Rattle.comparison.specs.Meaning.{Roomy, Comparable, SidesGood, compare_lines}
-
--- ---- the order: 10 and 11, then 13, then 12
-
-module _ (c : Call) where
-  pub shape_decides : {number : ℕ} → shape_test c.question.pattern ≡ Against number → compare_test c ≡ shape_test c.question.pattern
-  unfolding compare_test
-  shape_decides e = order_stop _ _ e
-
-  pub room_decides : {number : ℕ} → shape_test c.question.pattern ≡ Fine → room_test c.room c.lent ≡ Against number
-      → compare_test c ≡ room_test c.room c.lent
-  unfolding compare_test
-  room_decides shape e = order_next _ _ shape ∙ order_stop _ _ e
-
-  pub masks_decide : {number : ℕ} → shape_test c.question.pattern ≡ Fine → room_test c.room c.lent ≡ Fine
-      → masks_test c.question.pattern ≡ Against number → compare_test c ≡ masks_test c.question.pattern
-  unfolding compare_test
-  masks_decide shape room e = order_next _ _ shape ∙ order_next _ _ room ∙ order_stop _ _ e
-
-  pub left_decides : {number : ℕ} → shape_test c.question.pattern ≡ Fine → room_test c.room c.lent ≡ Fine → masks_test c.question.pattern ≡ Fine
-      → set_test c.question.pattern.states c.question.left ≡ Against number
-      → compare_test c ≡ set_test c.question.pattern.states c.question.left
-  unfolding compare_test
-  left_decides shape room masks e = order_next _ _ shape ∙ order_next _ _ room ∙ order_next _ _ masks ∙ order_stop _ _ e
-
-  pub right_decides : shape_test c.question.pattern ≡ Fine → room_test c.room c.lent ≡ Fine → masks_test c.question.pattern ≡ Fine
-      → set_test c.question.pattern.states c.question.left ≡ Fine
-      → compare_test c ≡ set_test c.question.pattern.states c.question.right
-  unfolding compare_test
-  right_decides shape room masks left = order_next _ _ shape ∙ order_next _ _ room ∙ order_next _ _ masks ∙ order_next _ _ left ∙ order_last _
 
 -- ---- the room
 

@@ -1,13 +1,17 @@
 -- Demand 2 (the scope, §13.3), of the call: a call that is not refused gets 0, 1 or 2, each answer means what it says, and a refusal changes nothing. Assumes nothing.
-use mathlib.Core.Path.{◌≡◌, refl, ap, ◌∙◌}
-use mathlib.Core.List.{List}
+use Rattle.std.specs.Prelude.{Err}
+use mathlib.Core.Path.{◌≡◌, refl, sym, ap, ◌∙◌}
+use mathlib.Core.List.{List, [], ◌∷◌}
 use Prim.Native.Nat.{ℕ, ◌≤◌}
 use native.Mathlib.Omega.{arith}
 use lib.ListN.{length}
-use Rattle.verdict.specs.declared.Verdict.{Verdict}
-use Rattle.verdict.specs.declared.Verdict.TheVariants.{Fine, Against}
+use Rattle.verdict.specs.Refusals.{number}
+use Rattle.verdict.specs.declared.Refusal.{Refusal}
+use Rattle.verdict.specs.Verdict.{Verdict}
+use Rattle.verdict.specs.Verdict.Verdict.{Fine, Against}
 use Rattle.verdict.specs.Lines.{Applies}
 use Rattle.verdict.proofs.Ordered.{apart, one_number}
+use Rattle.verdict.proofs.Refusals.{has_name}
 use Rattle.lent.proofs.Laying.{take_lay}
 use Rattle.walk.specs.Walk.{Record, Outcome, kept_of, word_of, Walk}
 use Rattle.walk.specs.Walk.Outcome.{Same, Different, Full}
@@ -18,11 +22,10 @@ use Rattle.walk.proofs.SameMeansSame.{same_means_same}
 use Rattle.walk.proofs.DifferentMeansDifferent.{different_means_different}
 use Rattle.walk.proofs.Counts.{counts}
 use Rattle.walk.proofs.FullExactly.{full_exactly}
-use Rattle.comparison.specs.Answers.{number_of, Lent, Call, compare_test, answer_of, lay_out, Compared}
+use Rattle.comparison.specs.Answers.{Answered, number_of, Lent, Call, compare_test, answer_of, lay_out, Compared}
 use Rattle.comparison.specs.Answers.Compared.{refuses, walks}
 use Rattle.comparison.specs.Meaning.{IsRefused, Comparable, compare_lines, Honest, Quiet}
-use Rattle.comparison.specs.declared.Answer.{Answer}
-use Rattle.comparison.proofs.Asking.{compare_fine, compare_lines_lem, refusal_number}
+use Rattle.comparison.proofs.Asking.{compare_fine, compare_lines_lem, compare_among, refusal_number}
 
 low : (o : Outcome) → number_of (answer_of o) ≤ 2
 low (Same kept e) = omega arith
@@ -35,7 +38,7 @@ not_refused (Different kept e w) r = r
 not_refused (Full kept e) r = r
 
 -- a call that is not refused gets 0, 1 or 2
-pub compare_valid : {c : Call} {a : Answer} {later : Lent} → Comparable c → Compared c a later → number_of a ≤ 2
+pub compare_valid : {c : Call} {a : Answered} {later : Lent} → Comparable c → Compared c a later → number_of a ≤ 2
 compare_valid {c} p (refuses e) = apart ((compare_fine c).1 p) e
 compare_valid {c} p (walks {o} f w) = low o
 
@@ -107,7 +110,7 @@ module _ (c : Call) (fine : compare_test c ≡ Fine) where
 
 -- ---- a refusal
 
-refused_honest : (c : Call) {number : ℕ} → compare_test c ≡ Against number → Honest c (Answer.Refused number) c.lent
+refused_honest : (c : Call) {why : Refusal} → compare_test c ≡ Against (number why) → Honest c (Err why) c.lent
 refused_honest c e =
     let least = refusal_number c e in
     record {
@@ -125,27 +128,27 @@ refused_honest c e =
     }
 
 -- every answer means what it says
-pub compare_honest : {c : Call} {a : Answer} {later : Lent} → Compared c a later → Honest c a later
+pub compare_honest : {c : Call} {a : Answered} {later : Lent} → Compared c a later → Honest c a later
 compare_honest {c} (refuses e) = refused_honest c e
 compare_honest {c} (walks {o} f w) = honest c f o w
 
 -- the line of a refusal applies, and nothing is changed
-pub compare_quiet : {c : Call} {a : Answer} {later : Lent} → Compared c a later → IsRefused a → Quiet c a later
+pub compare_quiet : {c : Call} {a : Answered} {later : Lent} → Compared c a later → IsRefused a → Quiet c a later
 compare_quiet {c} (refuses e) r = record { reason = e; kept = refl; examined = refl; length = refl; unchanged = refl }
 compare_quiet {c} (walks {o} f w) r = absurd (not_refused o r)
 
 -- an answer that is no refusal is one to a call that is not refused
-pub compare_answered : {c : Call} {a : Answer} {later : Lent} → Compared c a later → (IsRefused a → ⊥) → Comparable c
+pub compare_answered : {c : Call} {a : Answered} {later : Lent} → Compared c a later → (IsRefused a → ⊥) → Comparable c
 compare_answered (refuses e) f = absurd (f tt)
 compare_answered {c} (walks g w) f = (compare_fine c).0 g
 
 -- every call has a result
-pub compare_answers : (c : Call) → (a : Answer) × (later : Lent) × Compared c a later
+pub compare_answers : (c : Call) → (a : Answered) × (later : Lent) × Compared c a later
 compare_answers c = pick (compare_test c) refl
   where
-    walked : Comparable c → compare_test c ≡ Fine → (a : Answer) × (later : Lent) × Compared c a later
+    walked : Comparable c → compare_test c ≡ Fine → (a : Answered) × (later : Lent) × Compared c a later
     walked p e = let (o, w) = walk_ends c.question p.0 c.room in (answer_of o, lay_out (kept_of o) (word_of o) c.lent, walks e w)
 
-    pick : (v : Verdict) → compare_test c ≡ v → (a : Answer) × (later : Lent) × Compared c a later
+    pick : (v : Verdict) → compare_test c ≡ v → (a : Answered) × (later : Lent) × Compared c a later
     pick Fine e = walked ((compare_fine c).0 e) e
-    pick (Against number) e = (Answer.Refused number, c.lent, refuses e)
+    pick (Against w) e = let (why, z) = has_name (10 ∷ 11 ∷ 13 ∷ 12 ∷ []) refl ((compare_among c).among w e) in (Err why, c.lent, refuses (e ∙ ap Against (sym z)))

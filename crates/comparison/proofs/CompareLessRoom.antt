@@ -1,4 +1,5 @@
 -- The call in a smaller room: the same, or FULL with the first records of the larger one. Assumes nothing.
+use Rattle.std.specs.Prelude.{Ok}
 use mathlib.Core.Path.{◌≡◌, refl, sym, ap, ◌∙◌}
 use mathlib.Core.Logic.{◌↔◌}
 use mathlib.Core.List.{List, [], ◌∷◌, map}
@@ -16,7 +17,7 @@ use Rattle.walk.specs.Meaning.{number_kept, cut_to}
 use Rattle.walk.proofs.Columns.{columns_path}
 use Rattle.walk.proofs.WalkUnique.{walk_unique}
 use Rattle.walk.proofs.LessRoom.{room_suffices, less_room}
-use Rattle.comparison.specs.Answers.{number_of, values_of, Lent, answer_of, lay_out, Compared}
+use Rattle.comparison.specs.Answers.{Answered, number_of, values_of, Lent, answer_of, lay_out, Compared}
 use Rattle.comparison.specs.Answers.Compared.{refuses, walks}
 use Rattle.comparison.specs.Meaning.{IsRefused, Roomy, SameWritten, LessRoom}
 use Rattle.comparison.specs.declared.Answer.{Answer}
@@ -62,7 +63,7 @@ module _ {Q : Question} (sized : Sized Q.pattern.states Q.pattern.letters) {room
           (ap answer_of e, rw e (alike o' lent lent'))
 
       cut : room < (values_of (answer_of o')).kept
-          → (answer_of o ≡ Answer.Full room (suc (number_kept Q.pattern.letters (lay_columns (kept_of o') lent'.columns) room)))
+          → (answer_of o ≡ Ok (Answer.Full room (suc (number_kept Q.pattern.letters (lay_columns (kept_of o') lent'.columns) room))))
           × SameWritten room 0 (lay_out (kept_of o) (word_of o) lent) (lay_out (kept_of o') (word_of o') lent')
       cut h =
           let kept = kept_of o' in
@@ -72,12 +73,12 @@ module _ {Q : Question} (sized : Sized Q.pattern.states Q.pattern.letters) {room
           let first : firsts room (lay_columns (take room kept) lent.columns) ≡ columns_of (take room kept) =
           rw n at (firsts_laid (take room kept) lent.columns) in
           rw (e, number_laid Q.pattern.letters kept lent'.columns room l) (
-            ap (λ (m : ℕ). Answer.Full m (suc (number_kept Q.pattern.letters (columns_of kept) room))) n,
+            ap (λ (m : ℕ). Ok (Answer.Full m (suc (number_kept Q.pattern.letters (columns_of kept) room)))) n,
             record { columns = first ∙ sym (firsts_of kept lent'.columns room (omega arith)); sequence = refl },
           )
 
 -- the larger call says all of the smaller: its answer and its numbers, and the records that it leaves
-pub compare_less_room : {Q : Question} {room more : ℕ} {lent lent' : Lent} {a b : Answer} {l m : Lent} → room ≤ more → Roomy room lent
+pub compare_less_room : {Q : Question} {room more : ℕ} {lent lent' : Lent} {a b : Answered} {l m : Lent} → room ≤ more → Roomy room lent
     → Compared (record { question = Q; room = room; lent = lent }) a l → Compared (record { question = Q; room = more; lent = lent' }) b m
     → (IsRefused b → ⊥) → LessRoom Q.pattern.letters room b m a l
 compare_less_room le r x (refuses e) t = absurd (t tt)
@@ -85,7 +86,7 @@ compare_less_room le r (refuses e) (walks g w) t = apart ((compare_fine _).1 (((
 compare_less_room {lent = lent} {lent'} le r (walks {o} f v) (walks {o = o'} g w) t = less ((compare_fine _).0 g).0.valid.sized le lent lent' o o' v w
 
 -- FULL in the smaller exactly when the larger keeps more than it allows
-pub compare_full_beside : {Q : Question} {room more : ℕ} {lent lent' : Lent} {a b : Answer} {l m : Lent} → room < more → Roomy room lent
+pub compare_full_beside : {Q : Question} {room more : ℕ} {lent lent' : Lent} {a b : Answered} {l m : Lent} → room < more → Roomy room lent
     → Compared (record { question = Q; room = room; lent = lent }) a l → Compared (record { question = Q; room = more; lent = lent' }) b m
     → (IsRefused b → ⊥) → (number_of a ≡ 2) ↔ (room < (values_of b).kept)
 compare_full_beside {Q} {room} {a = a} {b} {l} {m} lt r x y t = (λ z. pick z (dec_lt room (values_of b).kept), λ h. ap number_of (less_said.full h).0)

@@ -10,10 +10,9 @@ use Rattle.lent.proofs.Laying.{take_lay}
 use Rattle.walk.specs.Walk.{Question, Record, Outcome, kept_of, word_of}
 use Rattle.walk.specs.Walk.Outcome.{Same, Different, Full}
 use Rattle.walk.specs.Meaning.{Settled, Covers}
-use Rattle.comparison.specs.Answers.{number_of, values_of, Lent, Call, answer_of, lay_out, Compared}
+use Rattle.comparison.specs.Answers.{Answered, number_of, values_of, Lent, Call, answer_of, lay_out, Compared}
 use Rattle.comparison.specs.Answers.Compared.{refuses, walks}
 use Rattle.comparison.specs.Meaning.{Roomy, SameWritten}
-use Rattle.comparison.specs.declared.Answer.{Answer}
 use Rattle.comparison.proofs.Standing.{firsts_laid}
 use Rattle.comparison.proofs.Asking.{compare_fine, refusal_number}
 use Rattle.walk.proofs.WalkUnique.{walk_unique}
@@ -41,7 +40,7 @@ alike (Different kept e w) old new = same_written kept w old new
 alike (Full kept e) old new = same_written kept [] old new
 
 -- one question in two rooms: SAME and DIFFERENT stay in the larger, number for number, record for record and letter for letter, where that room is there
-pub compare_more_room : {Q : Question} {room more : ℕ} {lent lent' : Lent} {a b : Answer} {l m : Lent} → room ≤ more → Roomy more lent'
+pub compare_more_room : {Q : Question} {room more : ℕ} {lent lent' : Lent} {a b : Answered} {l m : Lent} → room ≤ more → Roomy more lent'
     → Compared (record { question = Q; room = room; lent = lent }) a l → Compared (record { question = Q; room = more; lent = lent' }) b m
     → number_of a ≤ 1 → (a ≡ b) × SameWritten (values_of a).kept (values_of a).length l m
 compare_more_room le r (refuses e) k s = absurd (omega (arith, refusal_number _ e))
@@ -58,7 +57,7 @@ kept_is (Different kept e w) = refl
 kept_is (Full kept e) = refl
 
 -- fewer records are kept than there are sets
-pub compare_room_enough : {c : Call} {a : Answer} {later : Lent} {sets : List ℕ} → Covers c.question sets → Compared c a later
+pub compare_room_enough : {c : Call} {a : Answered} {later : Lent} {sets : List ℕ} → Covers c.question sets → Compared c a later
     → (values_of a).kept < length sets
 compare_room_enough {c} covers (refuses e) = some (covers.from_left [] empty)
 compare_room_enough {c} covers (walks {o} f w) = rw (kept_is o) (room_enough ((compare_fine c).0 f).0.valid.sized covers w)
@@ -69,7 +68,7 @@ not_full (Different kept e w) f z = omega arith
 not_full (Full kept e) f z = f kept e refl
 
 -- and a room of one less than those is never FULL
-pub compare_never_full : {c : Call} {a : Answer} {later : Lent} {sets : List ℕ} → Covers c.question sets → length sets ≤ c.room + 1
+pub compare_never_full : {c : Call} {a : Answered} {later : Lent} {sets : List ℕ} → Covers c.question sets → length sets ≤ c.room + 1
     → Compared c a later → number_of a ≡ 2 → ⊥
 compare_never_full {c} covers enough (refuses e) z = omega (arith, refusal_number c e)
 compare_never_full {c} covers enough (walks {o} f w) z = not_full o (λ kept e y. never_full ((compare_fine c).0 f).0.valid.sized covers enough (rw y at w)) z

@@ -1,16 +1,20 @@
 -- What `deal` leaves in each of its five ways out, over plain lists. Assumes nothing.
 use mathlib.Core.Path.{◌≡◌, refl, sym, ap, ◌∙◌, subst}
+use mathlib.Core.Bool.{Bool}
 use mathlib.Core.List.{List, [], ◌∷◌, ◌++◌}
 use Prim.Native.Nat.{ℕ, zero, suc, ◌+◌, ◌≤◌, ◌<◌}
 use native.Mathlib.Nat.{mod-lt}
 use native.Mathlib.Omega.{arith}
 use lib.ListN.{length, take, length-append}
 use lib.Seq.{get_or-take, length-take-le}
+use Rattle.verdict.specs.Tests.{Decides}
 use Rattle.lent.specs.Lent.{lay}
 use Rattle.sets.specs.Sets.{meets}
 use Rattle.sets.specs.Rooms.{max_room}
 use Rattle.pattern.specs.Language.{reach, accepts}
 use Rattle.congruence.specs.Congruence.{Congruent, Listed}
+use Rattle.congruence.specs.Lent.{listed_in}
+use Rattle.congruence.specs.declared.Pairs.{Pairs}
 use Rattle.walk.specs.Walk.{Question, Record, lefts_of, rights_of, parents_of, letters_of, candidate, candidates, upcoming, Implied, Agrees, Moves, Path, Word}
 use Rattle.walk.specs.Walk.Moves.{skipped}
 use Rattle.walk.specs.Walk.Word.{first, later}
@@ -19,11 +23,12 @@ use Rattle.walk.specs.Columns.{Columns, columns_of, firsts, Fit}
 use Rattle.walk.proofs.Columns.{fit_less}
 use Rattle.walk.proofs.Paths.{Way, way}
 use Rattle.walk.proofs.Sound.{from_below}
-use Rattle.comparison.specs.Answers.{Call}
-use Rattle.comparison.specs.Inner.{Spellable, Spelt, Proposable, Proposed, record_of, records_of, standing, Ready, keep_at, write, DealtWith}
+use Rattle.comparison.specs.Answers.{Call, lent_in, SameTables}
+use Rattle.comparison.specs.Inner.{Spellable, Spelt, Spells, Lists, Proposable, Proposed, record_of, records_of, standing, Ready, keep_at, write, DealtWith}
 use Rattle.comparison.specs.Inner.DealtWith.{skips, keeps, tells, fills}
 use Rattle.comparison.specs.declared.Dealt.{Dealt}
 use Rattle.comparison.specs.declared.Candidate.{Candidate}
+use Rattle.comparison.specs.declared.Tables.{Tables}
 use Rattle.comparison.proofs.Standing.{length_records, shown}
 
 -- ---- the candidate
@@ -75,20 +80,46 @@ module _ {c : Call} {n e : ℕ} (ready : Ready c n e) where
   long_lefts = length-take-le n c.lent.columns.lefts fit.lefts
 
   -- what the code asks for the candidate by, and what it gets
-  pub proposable : Proposable c.question.pattern.states c.question.pattern.letters c.question.pattern.rows (take n c.lent.columns.lefts) (take n c.lent.columns.rights) e
+  pub proposable : Proposable c.question.pattern (take n c.lent.columns.lefts) e
   proposable =
       record {
         states_fit = ready.valid.sized.states_fit;
         some_letter = ready.valid.sized.some_letter;
         tabled = ready.valid.tabled;
-        alike = long_lefts ∙ sym (length-take-le n c.lent.columns.rights fit.rights);
         remains = rw long_lefts (rw (length_records c.lent.columns n) at ready.remains);
       }
 
+  pub alike : length (take n c.lent.columns.lefts) ≡ length (take n c.lent.columns.rights)
+  alike = long_lefts ∙ sym (length-take-le n c.lent.columns.rights fit.rights)
+
   pub facing : {made : Candidate}
-      → Proposed c.question.pattern.states c.question.pattern.letters c.question.pattern.rows c.question.left c.question.right (take n c.lent.columns.lefts) (take n c.lent.columns.rights) e made
+      → Proposed c.question (take n c.lent.columns.lefts) (take n c.lent.columns.rights) e made
       → Facing c n e made
-  facing p = record { ready = ready; is = p.all c.question.pattern.finals (records_of c.lent.columns n) lefts rights }
+  facing p = record { ready = ready; is = p.all (records_of c.lent.columns n) lefts rights }
+
+-- ---- the same, by the pairs that the code lists
+
+-- a question, a room, and what stands in the tables
+abbrev on : Question → ℕ → Tables → Call
+on Q room t = record { question = Q; room = room; lent = lent_in t }
+
+module _ {Q : Question} {room n e : ℕ} {t : Tables} {listed : Pairs} (listed_as : Lists t n listed) where
+  pub proposable_listed : Ready (on Q room t) n e → Proposable Q.pattern listed.lefts.now e
+  proposable_listed ready = rw listed_as.lefts_are (proposable ready)
+
+  pub facing_listed : {made : Candidate} → Ready (on Q room t) n e → Proposed Q listed.lefts.now listed.rights.now e made → Facing (on Q room t) n e made
+  facing_listed ready p = facing ready (rw (listed_as.lefts_are, listed_as.rights_are) at p)
+
+pub decided_listed : {t : Tables} {n a b : ℕ} {listed : Pairs} {flag : Bool} → Lists t n listed → Decides (Congruent (listed_in listed) a b) flag
+    → Decides (Congruent (Listed (take n t.lefts.now) (take n t.rights.now)) a b) flag
+decided_listed l d = rw (l.lefts_are, l.rights_are) at d
+
+pub same_here : {t : Tables} → SameTables t t
+same_here = record { lefts = refl; rights = refl; parents = refl; taken = refl; sequence = refl }
+
+pub same_then : {s t u : Tables} → SameTables s t → SameTables t u → SameTables s u
+same_then p q =
+    record { lefts = q.lefts ∙ p.lefts; rights = q.rights ∙ p.rights; parents = q.parents ∙ p.parents; taken = q.taken ∙ p.taken; sequence = q.sequence ∙ p.sequence }
 
 module _ {c : Call} {n e : ℕ} {made : Candidate} (here : Facing c n e made) where
   -- congruent, and agreeing, as the code asks it
@@ -191,3 +222,10 @@ module _ {c : Call} {n e : ℕ} {made : Candidate} (here : Facing c n e made) wh
       let w = way_there z in
       let (er, es) = s.all w.word w.path in
       rw (es, er, ← length-append w.word (made.letter ∷ [])) (told w.word f a z w.path)
+
+-- what `spell` wrote lies in the tables
+pub deal_spelt : {Q : Question} {room n e r : ℕ} {t t' : Tables} {made : Candidate} (here : Facing (on Q room t) n e made) → (Old here → ⊥) → (Alike here → ⊥) → (e ≡ 0 → ⊥)
+    → Spells t n made.parent made.letter r t' → DealtWith (on Q room t) n e (Dealt.Different r) (lent_in t')
+deal_spelt {Q} {room} {n} {e} {r} {t} {t'} here f a z s =
+    subst (λ (d : Columns). DealtWith (on Q room t) n e (Dealt.Different r) (record { columns = d; sequence = t'.sequence.now })) (sym s.columns_kept)
+    (deal_later here f a z s.spelt)

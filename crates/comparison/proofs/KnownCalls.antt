@@ -2,8 +2,8 @@
 use mathlib.Core.Path.{◌≡◌, refl}
 use mathlib.Core.List.{List, [], ◌∷◌}
 use Prim.Native.Nat.{ℕ}
-use Rattle.verdict.specs.declared.Verdict.{Verdict}
-use Rattle.verdict.specs.declared.Verdict.TheVariants.{Fine}
+use Rattle.verdict.specs.Verdict.{Verdict}
+use Rattle.verdict.specs.Verdict.Verdict.{Fine}
 use Rattle.verdict.specs.Tests.{need, in_order, each}
 use Rattle.verdict.proofs.Ordered.{order_fine}
 use Rattle.pattern.specs.Tests.{size_test, table_test, set_test, shape_test, masks_test, pattern_test}

@@ -7,8 +7,9 @@ use native.Mathlib.Numerals.{add-one}
 use native.Mathlib.Omega.{arith}
 use lib.ListN.{length, get_or, length-append}
 use lib.Seq.{get_or-take}
+use Rattle.std.specs.Prelude.{Ok}
 use Rattle.lent.specs.Lent.{lay}
-use Rattle.verdict.specs.declared.Verdict.TheVariants.{Fine}
+use Rattle.verdict.specs.Verdict.Verdict.{Fine}
 use Rattle.sets.specs.Rooms.{max_room}
 use Rattle.walk.specs.Walk.{Record, begin, upcoming, Remains, keep, Moves, Moved}
 use Rattle.walk.specs.Walk.Outcome.{Same, Different, Full}
@@ -96,9 +97,9 @@ module _ {c : Call} {l : Lent} {n e : ℕ} (w : Walking c l n e) where
 
   -- ---- SAME
 
-  pub walked_same : 1 + c.question.pattern.letters * n ≤ e → Compared c (Answer.Same n e) l
+  pub walked_same : 1 + c.question.pattern.letters * n ≤ e → Compared c (Ok (Answer.Same n e)) l
   walked_same h =
-      rw w.laid (subst (λ (m : ℕ). Compared c (Answer.Same m e) (lay_out (records_of l.columns n) [] c.lent)) (length_records l.columns n)
+      rw w.laid (subst (λ (m : ℕ). Compared c (Ok (Answer.Same m e)) (lay_out (records_of l.columns n) [] c.lent)) (length_records l.columns n)
       (walks {o = Same (records_of l.columns n) e} w.fine (record {
         last = standing l n e;
         moved = w.moved;
@@ -145,22 +146,22 @@ written : {c : Call} {l : Lent} {n e : ℕ} → Walking c l n e → (u : List �
 written w u = lent_path (ap (λ (m : Lent). m.columns) w.laid) (ap (lay u) (quiet w))
 
 pub walked_different : {c : Call} {l : Lent} {n e m : ℕ} {d : Dealt} {l' : Lent} → Walking c l n e → DealtWith (later c l) n e d l' → d ≡ Dealt.Different m
-    → Compared c (Answer.Different n (e + 1) m) l'
+    → Compared c (Ok (Answer.Different n (e + 1) m)) l'
 walked_different w (skips mv) q = absurd (let z : ◌≡◌ {A = ℕ} 0 1 = cc in omega arith)
 walked_different w (keeps mv) q = absurd (let z : ◌≡◌ {A = ℕ} 0 1 = cc in omega arith)
 walked_different {c} {l} {n} {e} {m} w (tells {w = u} x) q =
     let z : length u ≡ m = cc in
-    rw (add-one e, written w u, ← z) (subst (λ (k : ℕ). Compared c (Answer.Different k (suc e) (length u)) (lay_out (records_of l.columns n) u c.lent)) (length_records l.columns n)
+    rw (add-one e, written w u, ← z) (subst (λ (k : ℕ). Compared c (Ok (Answer.Different k (suc e) (length u))) (lay_out (records_of l.columns n) u c.lent)) (length_records l.columns n)
     (walks {o = Different (records_of l.columns n) (suc e) u} w.fine (record { last = standing l n e; moved = w.moved; ends = x })))
 walked_different w (fills x) q = absurd (let z : ◌≡◌ {A = ℕ} 0 1 = cc in omega arith)
 
 -- ---- FULL
 
 pub walked_full : {c : Call} {l : Lent} {n e : ℕ} {d : Dealt} {l' : Lent} → Walking c l n e → DealtWith (later c l) n e d l' → d ≡ Dealt.Full
-    → Compared c (Answer.Full n (e + 1)) l'
+    → Compared c (Ok (Answer.Full n (e + 1))) l'
 walked_full w (skips mv) q = absurd (let z : ◌≡◌ {A = ℕ} 0 1 = cc in omega arith)
 walked_full w (keeps mv) q = absurd (let z : ◌≡◌ {A = ℕ} 0 1 = cc in omega arith)
 walked_full w (tells x) q = absurd (let z : ◌≡◌ {A = ℕ} 0 1 = cc in omega arith)
 walked_full {c} {l} {n} {e} w (fills x) q =
-    rw (add-one e, w.laid) (subst (λ (k : ℕ). Compared c (Answer.Full k (suc e)) (lay_out (records_of l.columns n) [] c.lent)) (length_records l.columns n)
+    rw (add-one e, w.laid) (subst (λ (k : ℕ). Compared c (Ok (Answer.Full k (suc e))) (lay_out (records_of l.columns n) [] c.lent)) (length_records l.columns n)
     (walks {o = Full (records_of l.columns n) (suc e)} w.fine (record { last = standing l n e; moved = w.moved; ends = x })))

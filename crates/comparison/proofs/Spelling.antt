@@ -4,12 +4,24 @@ use mathlib.Core.List.{List, [], ◌∷◌, ◌++◌, append_assoc, append-nil}
 use Prim.Native.Nat.{ℕ, suc, ◌+◌, ◌-◌, ◌≤◌, ◌<◌}
 use native.Mathlib.Numerals.{add-one}
 use native.Mathlib.Omega.{arith}
-use lib.ListN.{length, get_or, take, drop, set, length-append, length-set, take-append-drop}
-use lib.Seq.{take-suc, set_at, length-take-le, set_split, drop_at}
+use Rattle.std.proofs.Common.{min}
+use lib.ListN.{length, get_or, take, drop, set, length-append, length-set, length-take, take-append-drop}
+use lib.Seq.{get_or-take, take-suc, set_at, length-take-le, set_split, drop_at}
 use Rattle.lent.specs.Lent.{lay}
 use Rattle.walk.specs.Walk.{Path}
 use Rattle.comparison.specs.Inner.{Spelt}
 use Rattle.walk.proofs.Paths.{path_unique, further_of, ended_of}
+
+-- ---- the first n of a list
+
+pub short_of : (n : ℕ) {i : ℕ} (xs : List ℕ) → i < length (take n xs) → i < length xs
+short_of n {i} xs l = let e : length (take n xs) ≡ min n (length xs) = length-take n xs in grind (arith, e)
+
+pub shown_at : (n : ℕ) {i : ℕ} (xs : List ℕ) → i < length (take n xs) → get_or xs i 0 ≡ get_or (take n xs) i 0
+shown_at n {i} xs l =
+    let e : length (take n xs) ≡ min n (length xs) = length-take n xs in
+    let b : i < n = grind (arith, e) in
+    sym (get_or-take n xs i 0 b)
 
 -- ---- the first loop: so many letters are passed, and i is where we stand
 
@@ -27,6 +39,9 @@ module _ {parents letters : List ℕ} {from : ℕ} where
   climbing_step {count} {i} c f e =
       let g = further_of c.path f in
       rw e (record { word = g.before; path = g.path; total = λ w p. omega (arith, c.total w p, g.longer) })
+
+  pub climbing_below : {count i : ℕ} → Climbing parents letters from count i → (i ≡ 0 → ⊥) → i < length parents
+  climbing_below c f = (further_of c.path f).below
 
   pub climbing_done : {count i : ℕ} → Climbing parents letters from count i → i ≡ 0 → (w : List ℕ) → Path parents letters from w → length w ≡ count
   climbing_done {count} c e w p = c.total w p ∙ ap (λ (u : List ℕ). length u + count) (ended_of c.path e) ∙ omega arith
@@ -69,6 +84,9 @@ module _ {parents letters : List ℕ} {from count : ℕ} where
 
   pub at_positive : {at j : ℕ} {old new : List ℕ} → Writing parents letters from count old new at j → (j ≡ 0 → ⊥) → 1 ≤ at
   at_positive w f = omega (arith, w.place, (further_of w.path f).longer)
+
+  pub writing_below : {at j : ℕ} {old new : List ℕ} → Writing parents letters from count old new at j → (j ≡ 0 → ⊥) → j < length parents
+  writing_below w f = (further_of w.path f).below
 
   pub writing_step : {at at' j j' : ℕ} {old new new' : List ℕ} → Writing parents letters from count old new at j → (j ≡ 0 → ⊥)
       → at' ≡ at - 1 → new' ≡ set new at' (get_or letters j 0) → j' ≡ get_or parents j 0 → Writing parents letters from count old new' at' j'

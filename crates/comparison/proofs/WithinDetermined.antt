@@ -2,14 +2,13 @@
 -- Assumes nothing.
 use mathlib.Core.Path.{◌≡◌, sym, ap, ◌∙◌}
 use Rattle.comparison.specs.Answers.{Lent, Call}
-use Rattle.comparison.specs.Inclusion.{inclusion_of, Included}
-use Rattle.comparison.specs.declared.inclusion.Inclusion.{Inclusion}
+use Rattle.comparison.specs.Inclusion.{AnsweredOneWay, answered_one_way, Included}
 use Rattle.comparison.proofs.CompareDetermined.{compare_determined}
 use Rattle.comparison.proofs.Joining.{included_compared}
 
-pub within_determined : {c : Call} {a a' : Inclusion} {l l' : Lent} → Included c a l → Included c a' l' → (a ≡ a') × (l ≡ l')
+pub within_determined : {c : Call} {a a' : AnsweredOneWay} {l l' : Lent} → Included c a l → Included c a' l' → (a ≡ a') × (l ≡ l')
 within_determined j k =
     let (b, p, e) = included_compared j in
     let (b', p', e') = included_compared k in
     let (same, left) = compare_determined p p' in
-    (e ∙ ap inclusion_of same ∙ sym e', left)
+    (e ∙ ap answered_one_way same ∙ sym e', left)

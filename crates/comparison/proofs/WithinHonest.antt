@@ -7,20 +7,18 @@ use native.Mathlib.Omega.{arith}
 use Rattle.pattern.proofs.Inclusion.{union_within}
 use Rattle.walk.proofs.Inclusion.{tells_escapes}
 use Rattle.comparison.specs.Answers as Comparison
-use Rattle.comparison.specs.Answers.{Lent, Call, Compared}
+use Rattle.comparison.specs.Answers.{Answered, Lent, Call, Compared}
 use Rattle.comparison.specs.Meaning.{Comparable}
-use Rattle.comparison.specs.Inclusion.{number_of, inclusion_of, Included}
+use Rattle.comparison.specs.Inclusion.{AnsweredOneWay, number_of, answered_one_way, Included}
 use Rattle.comparison.specs.Inclusion.Included.{refuses, walks}
 use Rattle.comparison.specs.InclusionMeaning.{IsRefused, HonestInclusion, QuietInclusion}
-use Rattle.comparison.specs.declared.Answer.{Answer}
-use Rattle.comparison.specs.declared.inclusion.Inclusion.{Inclusion}
 use Rattle.comparison.proofs.Asking.{compare_fine}
 use Rattle.comparison.proofs.CompareHonest.{compare_valid, compare_honest, compare_answers}
 use Rattle.comparison.proofs.Joining.{joined_call, comparable_joined, lines_joined, included_compared, compared_included, values_joined, refused_joined, number_refused, within_joined, not_within_joined, full_joined}
 
 -- by what the comparison of X+Y with Y answers
-module _ {c : Call} (b : Answer) {later : Lent} (k : Compared (joined_call c) b later) where
-  honest : HonestInclusion c (inclusion_of b) later
+module _ {c : Call} (b : Answered) {later : Lent} (k : Compared (joined_call c) b later) where
+  honest : HonestInclusion c (answered_one_way b) later
   honest =
       let h = compare_honest k in
       let is = refused_joined b in
@@ -47,27 +45,27 @@ module _ {c : Call} (b : Answer) {later : Lent} (k : Compared (joined_call c) b 
       }
 
 -- every answer means what it says
-pub within_honest : {c : Call} {a : Inclusion} {later : Lent} → Included c a later → HonestInclusion c a later
+pub within_honest : {c : Call} {a : AnsweredOneWay} {later : Lent} → Included c a later → HonestInclusion c a later
 within_honest k = let (b, p, e) = included_compared k in rw e (honest b p)
 
 -- a call that is not refused gets 8, 9 or 2
-pub within_valid : {c : Call} {a : Inclusion} {later : Lent} → Comparable c → Included c a later → (number_of a ≡ 8) ⊎ (number_of a ≡ 9) ⊎ (number_of a ≡ 2)
+pub within_valid : {c : Call} {a : AnsweredOneWay} {later : Lent} → Comparable c → Included c a later → (number_of a ≡ 8) ⊎ (number_of a ≡ 9) ⊎ (number_of a ≡ 2)
 within_valid {c} {later = later} p k =
     let (b, q, e) = included_compared k in
     rw e (pick b q (Comparison.number_of b) refl (compare_valid ((comparable_joined c).0 p) q))
   where
-    pick : (b : Answer) → Compared (joined_call c) b later → (n : ℕ) → Comparison.number_of b ≡ n → n ≤ 2
-        → (number_of (inclusion_of b) ≡ 8) ⊎ (number_of (inclusion_of b) ≡ 9) ⊎ (number_of (inclusion_of b) ≡ 2)
+    pick : (b : Answered) → Compared (joined_call c) b later → (n : ℕ) → Comparison.number_of b ≡ n → n ≤ 2
+        → (number_of (answered_one_way b) ≡ 8) ⊎ (number_of (answered_one_way b) ≡ 9) ⊎ (number_of (answered_one_way b) ≡ 2)
     pick b q zero z l = inl ((within_joined b (compare_honest q).high).1 z)
     pick b q (suc zero) z l = inr (inl ((not_within_joined b (compare_honest q).high).1 z))
     pick b q (suc (suc zero)) z l = inr (inr ((full_joined b (compare_honest q).high).1 z))
     pick b q (suc (suc (suc n))) z l = absurd (omega (arith, l))
 
 -- the line of a refusal applies, and nothing is changed
-pub within_quiet : {c : Call} {a : Inclusion} {later : Lent} → Included c a later → IsRefused a → QuietInclusion c a later
+pub within_quiet : {c : Call} {a : AnsweredOneWay} {later : Lent} → Included c a later → IsRefused a → QuietInclusion c a later
 within_quiet (refuses e) i = record { reason = e; kept = refl; examined = refl; length = refl; unchanged = refl }
 within_quiet {c} (walks {o} f w) i = absurd ((within_honest (walks {o = o} f w)).refused.0 i ((compare_fine c).0 f))
 
 -- every call has a result
-pub within_answers : (c : Call) → (a : Inclusion) × (later : Lent) × Included c a later
-within_answers c = let (b, later, k) = compare_answers (joined_call c) in (inclusion_of b, later, compared_included k)
+pub within_answers : (c : Call) → (a : AnsweredOneWay) × (later : Lent) × Included c a later
+within_answers c = let (b, later, k) = compare_answers (joined_call c) in (answered_one_way b, later, compared_included k)

@@ -1,28 +1,41 @@
 -- What the comparison answers, and what it leaves in all that it is lent.
+--   Answered             what a call returns: an answer, or a refusal
 --   number_of, values_of   the scope's number of an answer (§7), and the numbers returned with it
 --   Lent, Call           all that the host lends; the question, the room and what is lent
 --   room_test            13 BAD-ROOM; compare_test: all refusals in the scope's order (`compare_fine` says when there is none)
---   answer_of, lay_out   the answer of an outcome; its records and its sequence laid over what is lent
+--   outcome_answer, answer_of
+--                        the answer of an outcome, and the same as a call returns it
+--   lay_out              its records and its sequence laid over what is lent
 --   Compared             what a call answers and leaves: one result for every call (`compare_determined`)
---   Compares             the same, of lent slices: what stands in them when the call begins, and when it ends
-use Rattle.std.specs.Prelude.{◌≡◌, List, [], ◌∷◌, ℕ, length, leb}
-use Rattle.verdict.specs.declared.Verdict.{Verdict}
-use Rattle.verdict.specs.declared.Verdict.TheVariants.{Fine, Against}
+--   question_in, lent_in, call_in
+--                        these, of the code's question and of the tables that it is lent
+--   Compares             what a call answers and leaves, of its tables when it begins, and when it ends; they are of the same slices
+use Rattle.std.specs.Prelude.{◌≡◌, List, [], ◌∷◌, ℕ, length, leb, Result, Ok, Err}
+use Rattle.verdict.specs.declared.Refusal.{Refusal}
+use Rattle.verdict.specs.Refusals.{number}
+use Rattle.verdict.specs.Verdict.{Verdict}
+use Rattle.verdict.specs.Verdict.Verdict.{Fine, Against}
 use Rattle.verdict.specs.Tests.{need, in_order, each}
-use Rattle.lent.specs.Lent.{Slice, before, after, lay}
+use Rattle.lent.specs.Lent.{lay}
 use Rattle.sets.specs.Rooms.{max_room}
 use Rattle.pattern.specs.Tests.{set_test, shape_test, masks_test}
 use Rattle.walk.specs.Walk.{Question, question_of, Record, Outcome, kept_of, word_of, Walk}
 use Rattle.walk.specs.Walk.Outcome.{Same, Different, Full}
 use Rattle.walk.specs.Columns.{Columns, lengths, lay_columns}
+use Rattle.pattern.specs.declared.Question.{Question as Asked}
 use Rattle.comparison.specs.declared.Answer.{Answer}
+use Rattle.comparison.specs.declared.Tables.{Tables}
+
+-- an answer of the walk, or a refusal
+abbrev pub Answered : Type 0
+Answered = Result Answer Refusal
 
 -- 0 SAME, 1 DIFFERENT, 2 FULL, and the refusals by their own numbers
-abbrev pub number_of : Answer → ℕ
-number_of (Answer.Same kept examined) = 0
-number_of (Answer.Different kept examined length) = 1
-number_of (Answer.Full kept examined) = 2
-number_of (Answer.Refused number) = number
+abbrev pub number_of : Answered → ℕ
+number_of (Ok (Answer.Same kept examined)) = 0
+number_of (Ok (Answer.Different kept examined length)) = 1
+number_of (Ok (Answer.Full kept examined)) = 2
+number_of (Err why) = number why
 
 pub record Values : Type 0 where
   pub kept : ℕ
@@ -30,11 +43,11 @@ pub record Values : Type 0 where
   pub length : ℕ
 
 -- length is 0 but for DIFFERENT, and every number is 0 on a refusal
-abbrev pub values_of : Answer → Values
-values_of (Answer.Same kept examined) = record { kept = kept; examined = examined; length = 0 }
-values_of (Answer.Different kept examined length) = record { kept = kept; examined = examined; length = length }
-values_of (Answer.Full kept examined) = record { kept = kept; examined = examined; length = 0 }
-values_of (Answer.Refused number) = record { kept = 0; examined = 0; length = 0 }
+abbrev pub values_of : Answered → Values
+values_of (Ok (Answer.Same kept examined)) = record { kept = kept; examined = examined; length = 0 }
+values_of (Ok (Answer.Different kept examined length)) = record { kept = kept; examined = examined; length = length }
+values_of (Ok (Answer.Full kept examined)) = record { kept = kept; examined = examined; length = 0 }
+values_of (Err why) = record { kept = 0; examined = 0; length = 0 }
 
 -- the list of records, column by column, and the sequence bytes
 pub record Lent : Type 0 where
@@ -64,26 +77,42 @@ compare_test c =
     in_order (shape_test P ∷ room_test c.room c.lent ∷ masks_test P ∷ set_test P.states c.question.left ∷ set_test P.states c.question.right ∷ [])
 
 -- the numbers of an outcome
-abbrev pub answer_of : Outcome → Answer
-answer_of (Same kept examined) = Answer.Same (length kept) examined
-answer_of (Different kept examined word) = Answer.Different (length kept) examined (length word)
-answer_of (Full kept examined) = Answer.Full (length kept) examined
+abbrev pub outcome_answer : Outcome → Answer
+outcome_answer (Same kept examined) = Answer.Same (length kept) examined
+outcome_answer (Different kept examined word) = Answer.Different (length kept) examined (length word)
+outcome_answer (Full kept examined) = Answer.Full (length kept) examined
+
+abbrev pub answer_of : Outcome → Answered
+answer_of o = Ok (outcome_answer o)
 
 -- the records and the sequence stand in the first places, and everything not named as written is unchanged
 abbrev pub lay_out : List Record → List ℕ → Lent → Lent
 lay_out kept word old = record { columns = lay_columns kept old.columns; sequence = lay word old.sequence }
 
 -- a refusal changes nothing that is lent; any other answer is the walk's outcome
-pub data Compared (c : Call) : Answer → Lent → Type 0 where
-  refuses : {number : ℕ} → compare_test c ≡ Against number → Compared c (Answer.Refused number) c.lent
+pub data Compared (c : Call) : Answered → Lent → Type 0 where
+  refuses : {why : Refusal} → compare_test c ≡ Against (number why) → Compared c (Err why) c.lent
   walks : {o : Outcome} → compare_test c ≡ Fine → Walk c.question c.room o → Compared c (answer_of o) (lay_out (kept_of o) (word_of o) c.lent)
 
-abbrev pub lent_before : Slice → Slice → Slice → Slice → Slice → Lent
-lent_before lefts rights parents taken sequence = lent_of (before lefts) (before rights) (before parents) (before taken) (before sequence)
+-- ---- of the code's question and tables
 
-abbrev pub lent_after : Slice → Slice → Slice → Slice → Slice → Lent
-lent_after lefts rights parents taken sequence = lent_of (after lefts) (after rights) (after parents) (after taken) (after sequence)
+abbrev pub question_in : Asked → Question
+question_in q = question_of q.pattern.states q.pattern.letters q.pattern.finals q.pattern.rows.now q.x q.y
 
-abbrev pub Compares : ℕ → ℕ → ℕ → List ℕ → ℕ → ℕ → ℕ → Slice → Slice → Slice → Slice → Slice → Answer → Type 0
-Compares states letters finals rows x y room lefts rights parents taken sequence answer =
-    Compared (call_of states letters finals rows x y room (lent_before lefts rights parents taken sequence)) answer (lent_after lefts rights parents taken sequence)
+abbrev pub lent_in : Tables → Lent
+lent_in t = lent_of t.lefts.now t.rights.now t.parents.now t.taken.now t.sequence.now
+
+abbrev pub call_in : Asked → ℕ → Tables → Call
+call_in q room t = record { question = question_in q; room = room; lent = lent_in t }
+
+-- the tables are of the same slices
+pub record SameTables (old new : Tables) : Type 0 where
+  pub lefts : new.lefts.ghost_name ≡ old.lefts.ghost_name
+  pub rights : new.rights.ghost_name ≡ old.rights.ghost_name
+  pub parents : new.parents.ghost_name ≡ old.parents.ghost_name
+  pub taken : new.taken.ghost_name ≡ old.taken.ghost_name
+  pub sequence : new.sequence.ghost_name ≡ old.sequence.ghost_name
+
+pub record Compares (q : Asked) (room : ℕ) (old : Tables) (answer : Answered) (new : Tables) : Type 0 where
+  pub compared : Compared (call_in q room old) answer (lent_in new)
+  pub same_tables : SameTables old new

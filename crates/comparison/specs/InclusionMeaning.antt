@@ -2,26 +2,26 @@
 --   IsRefused         the answer is a refusal
 --   HonestInclusion   what an answer means, by the numbers that a host sees (the scope, §13.3)
 --   QuietInclusion    what a refusal leaves: every number 0, all that is lent as it was
-use Rattle.std.specs.Prelude.{◌≡◌, ◌↔◌, ℕ, ◌+◌, ◌*◌, ◌≤◌, take}
-use Rattle.verdict.specs.declared.Verdict.TheVariants.{Against}
+use Rattle.std.specs.Prelude.{◌≡◌, ◌↔◌, ℕ, ◌+◌, ◌*◌, ◌≤◌, take, Ok, Err}
+use Rattle.verdict.specs.Verdict.Verdict.{Against}
 use Rattle.verdict.specs.Lines.{Applies}
 use Rattle.pattern.specs.Inclusion.{LanguageWithin, Escapes}
 use Rattle.walk.specs.Meaning.{Outgrows}
 use Rattle.walk.specs.Inclusion.{joined}
 use Rattle.comparison.specs.Answers.{Lent, Call, compare_test}
 use Rattle.comparison.specs.Meaning.{Comparable, compare_lines}
-use Rattle.comparison.specs.Inclusion.{number_of, values_of}
+use Rattle.comparison.specs.Inclusion.{AnsweredOneWay, number_of, values_of}
 use Rattle.comparison.specs.declared.inclusion.Inclusion.{Inclusion}
 
-abbrev pub IsRefused : Inclusion → Type 0
-IsRefused (Inclusion.Within kept examined) = ⊥
-IsRefused (Inclusion.NotWithin kept examined length) = ⊥
-IsRefused (Inclusion.Full kept examined) = ⊥
-IsRefused (Inclusion.Refused number) = Unit {0}
+abbrev pub IsRefused : AnsweredOneWay → Type 0
+IsRefused (Ok (Inclusion.Within kept examined)) = ⊥
+IsRefused (Ok (Inclusion.NotWithin kept examined length)) = ⊥
+IsRefused (Ok (Inclusion.Full kept examined)) = ⊥
+IsRefused (Err why) = Unit {0}
 
 -- 8 WITHIN, 9 NOT-WITHIN; 2 FULL exactly where nothing is refused and the walk of X+Y and Y has to keep one more pair than the room allows; a
 -- refusal, 10 and up, exactly where a line of the comparison of X and Y applies, by its number
-pub record HonestInclusion (c : Call) (a : Inclusion) (later : Lent) : Type 0 where
+pub record HonestInclusion (c : Call) (a : AnsweredOneWay) (later : Lent) : Type 0 where
   pub within : number_of a ≡ 8 → LanguageWithin c.question.pattern c.question.left c.question.right
   pub all_examined : number_of a ≡ 8 → (values_of a).examined ≡ 1 + c.question.pattern.letters * (values_of a).kept
   pub not_within : number_of a ≡ 9 → Escapes c.question.pattern c.question.left c.question.right (take (values_of a).length later.sequence)
@@ -34,7 +34,7 @@ pub record HonestInclusion (c : Call) (a : Inclusion) (later : Lent) : Type 0 wh
   pub examined_fits : (values_of a).examined ≤ 1 + c.question.pattern.letters * (values_of a).kept
   pub length_fits : (values_of a).length ≤ (values_of a).kept
 
-pub record QuietInclusion (c : Call) (a : Inclusion) (later : Lent) : Type 0 where
+pub record QuietInclusion (c : Call) (a : AnsweredOneWay) (later : Lent) : Type 0 where
   pub reason : compare_test c ≡ Against (number_of a)
   pub kept : (values_of a).kept ≡ 0
   pub examined : (values_of a).examined ≡ 0

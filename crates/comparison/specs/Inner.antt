@@ -1,20 +1,24 @@
 -- What the contracts of the private functions cite. No promise to a host rests on this file.
---   Spellable, Spelt   a path that can be written as a sequence, and the sequence written
+--   Spellable, Spelt   a path that can be written as a sequence, and the sequence written; Spells: the same in the code's tables
+--   Lists              the two sides of the first records, as the code's pairs
 --   Proposable, Proposed
 --                      a number that has a candidate, and the candidate as the code makes it
 --   records_of         the first records of the lent list; standing: the position that they make
 --   Ready, DealtWith   a position from which the walk can go on, and what dealing with one candidate leaves
---   Deals              what dealing leaves, of lent slices
-use Rattle.std.specs.Prelude.{◌≡◌, List, [], ◌∷◌, ◌++◌, ℕ, zero, suc, ◌+◌, ◌*◌, ◌≤◌, ◌<◌, length, get_or}
-use Rattle.lent.specs.Lent.{Slice, lay}
-use Rattle.pattern.specs.Pattern.{Valid}
-use Rattle.walk.specs.Walk.{question_of, Record, lefts_of, rights_of, candidate, Position, upcoming, Remains, skip, keep, Moves, Path, Ends}
+--   Deals              the same, of the code's question and tables, which are of the same slices
+use Rattle.std.specs.Prelude.{◌≡◌, List, [], ◌∷◌, ◌++◌, ℕ, zero, suc, ◌+◌, ◌*◌, ◌≤◌, ◌<◌, length, get_or, take}
+use Rattle.lent.specs.Lent.{lay}
+use Rattle.pattern.specs.declared.Question.{Question as Asked}
+use Rattle.pattern.specs.Pattern.{Pattern, Tabled, Valid}
+use Rattle.walk.specs.Walk.{Question, Record, lefts_of, rights_of, candidate, Position, upcoming, Remains, skip, keep, Moves, Path, Ends}
 use Rattle.walk.specs.Walk.Outcome.{Different, Full}
 use Rattle.walk.specs.Columns.{Columns, record_at, store}
-use Rattle.comparison.specs.Answers.{Lent, Call, call_of, lent_before, lent_after}
+use Rattle.comparison.specs.Answers.{Lent, Call, lent_in, call_in, SameTables}
 use Rattle.comparison.specs.Meaning.{Roomy}
 use Rattle.comparison.specs.declared.Dealt.{Dealt}
 use Rattle.comparison.specs.declared.Candidate.{Candidate}
+use Rattle.comparison.specs.declared.Tables.{Tables}
+use Rattle.congruence.specs.declared.Pairs.{Pairs}
 
 -- the path of a record, and one letter after it, fit the sequence bytes
 pub record Spellable (parents taken : List ℕ) (from : ℕ) (sequence : List ℕ) : Type 0 where
@@ -27,21 +31,30 @@ pub record Spellable (parents taken : List ℕ) (from : ℕ) (sequence : List �
 pub record Spelt (parents taken : List ℕ) (from last : ℕ) (old new : List ℕ) (r : ℕ) : Type 0 where
   pub all : (w : List ℕ) → Path parents taken from w → (r ≡ length w + 1) × (new ≡ lay (w ++ (last ∷ [])) old)
 
+-- the same of the code's tables, by the first n records: nothing but the sequence is written
+pub record Spells (old : Tables) (n from last r : ℕ) (new : Tables) : Type 0 where
+  pub spelt : Spelt (take n old.parents.now) (take n old.taken.now) from last old.sequence.now new.sequence.now r
+  pub columns_kept : (lent_in new).columns ≡ (lent_in old).columns
+  pub same_tables : SameTables old new
+
+-- the two sides of the first n records
+pub record Lists (t : Tables) (n : ℕ) (listed : Pairs) : Type 0 where
+  pub lefts_are : listed.lefts.now ≡ take n t.lefts.now
+  pub rights_are : listed.rights.now ≡ take n t.rights.now
+
 abbrev pub record_of : Candidate → Record
 record_of r = record { left = r.left; right = r.right; parent = r.parent; letter = r.letter }
 
--- a table of rows, two sides of the same records, and a candidate of that number
-pub record Proposable (states letters : ℕ) (rows lefts rights : List ℕ) (examined : ℕ) : Type 0 where
-  pub states_fit : states ≤ 64
-  pub some_letter : 1 ≤ letters
-  pub tabled : length rows ≡ states * letters
-  pub alike : length lefts ≡ length rights
-  pub remains : examined < 1 + letters * length lefts
+-- a table of rows, and a candidate of that number for the records that have these left sides
+pub record Proposable (P : Pattern) (lefts : List ℕ) (examined : ℕ) : Type 0 where
+  pub states_fit : P.states ≤ 64
+  pub some_letter : 1 ≤ P.letters
+  pub tabled : Tabled P
+  pub remains : examined < 1 + P.letters * length lefts
 
 -- by the two sides of the records alone
-pub record Proposed (states letters : ℕ) (rows : List ℕ) (x y : ℕ) (lefts rights : List ℕ) (examined : ℕ) (r : Candidate) : Type 0 where
-  pub all : (finals : ℕ) (kept : List Record) → lefts_of kept ≡ lefts → rights_of kept ≡ rights
-      → record_of r ≡ candidate (question_of states letters finals rows x y) kept examined
+pub record Proposed (Q : Question) (lefts rights : List ℕ) (examined : ℕ) (r : Candidate) : Type 0 where
+  pub all : (kept : List Record) → lefts_of kept ≡ lefts → rights_of kept ≡ rights → record_of r ≡ candidate Q kept examined
 
 unfoldable pub records_of : Columns → ℕ → List Record
 records_of l zero = []
@@ -73,7 +86,6 @@ pub data DealtWith (c : Call) (n e : ℕ) : Dealt → Lent → Type 0 where
       → DealtWith c n e (Dealt.Different (length w)) (write w c.lent)
   fills : Ends c.question c.room (standing c.lent n e) (Full (records_of c.lent.columns n) (suc e)) → DealtWith c n e Dealt.Full c.lent
 
-abbrev pub Deals : ℕ → ℕ → ℕ → List ℕ → ℕ → ℕ → ℕ → ℕ → ℕ → Slice → Slice → Slice → Slice → Slice → Dealt → Type 0
-Deals states letters finals rows x y room kept examined lefts rights parents taken sequence dealt =
-    DealtWith (call_of states letters finals rows x y room (lent_before lefts rights parents taken sequence)) kept examined dealt
-    (lent_after lefts rights parents taken sequence)
+pub record Deals (q : Asked) (room kept examined : ℕ) (old : Tables) (dealt : Dealt) (new : Tables) : Type 0 where
+  pub dealt_with : DealtWith (call_in q room old) kept examined dealt (lent_in new)
+  pub same_tables : SameTables old new

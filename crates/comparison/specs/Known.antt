@@ -3,13 +3,12 @@ use Rattle.std.specs.Prelude.{◌≡◌, List, [], ◌∷◌, ℕ}
 use Rattle.walk.specs.Walk.{Question, Record, Outcome, kept_of, word_of}
 use Rattle.walk.specs.Known.{Row}
 use Rattle.walk.specs.Known.Row.{asks, closes}
-use Rattle.comparison.specs.Answers.{Lent, answer_of, lay_out, Compared}
+use Rattle.comparison.specs.Answers.{Answered, Lent, answer_of, lay_out, Compared}
 use Rattle.comparison.specs.Meaning.{Roomy}
-use Rattle.comparison.specs.declared.Answer.{Answer}
 
 -- answer, values and memory, whatever is lent for the room
 pub record Gives (Q : Question) (room : ℕ) (o : Outcome) : Type 0 where
-  pub all : (lent : Lent) → Roomy room lent → (a : Answer) (later : Lent) → Compared (record { question = Q; room = room; lent = lent }) a later
+  pub all : (lent : Lent) → Roomy room lent → (a : Answered) (later : Lent) → Compared (record { question = Q; room = room; lent = lent }) a later
       → (a ≡ answer_of o) × (later ≡ lay_out (kept_of o) (word_of o) lent)
 
 -- each row that asks gives its outcome; a row that closes is no call

@@ -7,8 +7,8 @@
 --   Quiet          what a refusal leaves: every number 0, all that is lent as it was
 --   SameWritten    two calls wrote the same records and the same sequence
 --   LessRoom       what a call in a smaller room answers and leaves, by what the larger one does
-use Rattle.std.specs.Prelude.{◌≡◌, ◌↔◌, ℕ, suc, ◌+◌, ◌*◌, ◌≤◌, ◌<◌, length, take}
-use Rattle.verdict.specs.declared.Verdict.TheVariants.{Against}
+use Rattle.std.specs.Prelude.{◌≡◌, ◌↔◌, ℕ, suc, ◌+◌, ◌*◌, ◌≤◌, ◌<◌, length, take, Ok, Err}
+use Rattle.verdict.specs.Verdict.Verdict.{Against}
 use Rattle.verdict.specs.Lines.{Lines, Applies}
 use Rattle.verdict.specs.Lines.Lines.{none, line}
 use Rattle.sets.specs.Sets.{Good}
@@ -18,14 +18,14 @@ use Rattle.pattern.specs.Language.{SameLanguage}
 use Rattle.walk.specs.Walk.{Question}
 use Rattle.walk.specs.Columns.{firsts, Fit}
 use Rattle.walk.specs.Meaning.{Proper, Outgrows, Tells, number_kept}
-use Rattle.comparison.specs.Answers.{number_of, values_of, Lent, Call, compare_test}
+use Rattle.comparison.specs.Answers.{Answered, number_of, values_of, Lent, Call, compare_test}
 use Rattle.comparison.specs.declared.Answer.{Answer}
 
-abbrev pub IsRefused : Answer → Type 0
-IsRefused (Answer.Same kept examined) = ⊥
-IsRefused (Answer.Different kept examined length) = ⊥
-IsRefused (Answer.Full kept examined) = ⊥
-IsRefused (Answer.Refused number) = Unit {0}
+abbrev pub IsRefused : Answered → Type 0
+IsRefused (Ok (Answer.Same kept examined)) = ⊥
+IsRefused (Ok (Answer.Different kept examined length)) = ⊥
+IsRefused (Ok (Answer.Full kept examined)) = ⊥
+IsRefused (Err why) = Unit {0}
 
 -- ---- the refusals
 
@@ -51,7 +51,7 @@ compare_lines c =
 
 -- 0 SAME, 1 DIFFERENT; 2 FULL exactly where nothing is refused and the walk has to keep one more pair than the room allows; a refusal, 10 and up,
 -- exactly where a line applies, by its number
-pub record Honest (c : Call) (a : Answer) (later : Lent) : Type 0 where
+pub record Honest (c : Call) (a : Answered) (later : Lent) : Type 0 where
   pub same : number_of a ≡ 0 → SameLanguage c.question.pattern c.question.left c.question.right
   pub all_examined : number_of a ≡ 0 → (values_of a).examined ≡ 1 + c.question.pattern.letters * (values_of a).kept
   pub different : number_of a ≡ 1 → Tells c.question (take (values_of a).length later.sequence)
@@ -64,7 +64,7 @@ pub record Honest (c : Call) (a : Answer) (later : Lent) : Type 0 where
   pub examined_fits : (values_of a).examined ≤ 1 + c.question.pattern.letters * (values_of a).kept
   pub length_fits : (values_of a).length ≤ (values_of a).kept
 
-pub record Quiet (c : Call) (a : Answer) (later : Lent) : Type 0 where
+pub record Quiet (c : Call) (a : Answered) (later : Lent) : Type 0 where
   pub reason : compare_test c ≡ Against (number_of a)
   pub kept : (values_of a).kept ≡ 0
   pub examined : (values_of a).examined ≡ 0
@@ -77,6 +77,6 @@ pub record SameWritten (kept length : ℕ) (l m : Lent) : Type 0 where
   pub sequence : take length l.sequence ≡ take length m.sequence
 
 -- (a, l) by (b, m): the same if the room holds what is kept; else FULL with the first records, at the candidate that was kept next
-pub record LessRoom (letters room : ℕ) (b : Answer) (m : Lent) (a : Answer) (l : Lent) : Type 0 where
+pub record LessRoom (letters room : ℕ) (b : Answered) (m : Lent) (a : Answered) (l : Lent) : Type 0 where
   pub same : (values_of b).kept ≤ room → (a ≡ b) × SameWritten (values_of b).kept (values_of b).length l m
-  pub full : room < (values_of b).kept → (a ≡ Answer.Full room (suc (number_kept letters m.columns room))) × SameWritten room 0 l m
+  pub full : room < (values_of b).kept → (a ≡ Ok (Answer.Full room (suc (number_kept letters m.columns room)))) × SameWritten room 0 l m

@@ -1,50 +1,66 @@
 // The one-way question, whether every event sequence that is accepted from X is accepted from Y: the comparison of X+Y with Y.
 ghost use Rattle.std.specs.Prelude.{◌≡◌};
+ghost use Rattle.walk.specs.Inclusion.{joined};
+ghost use Rattle.comparison.specs.Answers.{question_in};
 ghost use Rattle.comparison.specs.Inclusion.{inclusion_of, Includes};
 
-use crate::Answer;
+use crate::{Answer, Tables};
+use pattern::Question;
+use verdict::Refusal;
 
-// What the one-way question answers: kept, examined and, for NOT-WITHIN, length; or the number of a refusal.
-#[derive(Drop)]
+// What the one-way question answers: kept, examined and, for NOT-WITHIN, length.
+#[derive(Clone, Copy)]
 pub enum Inclusion {
-    Within(usize, usize),
-    NotWithin(usize, usize, usize),
-    Full(usize, usize),
-    Refused(u8),
+    Within {
+        kept: usize,
+        examined: usize,
+    },
+    NotWithin {
+        kept: usize,
+        examined: usize,
+        length: usize,
+    },
+    Full {
+        kept: usize,
+        examined: usize,
+    },
 }
 
 // The answer, by that of the comparison of X+Y with Y.
-fn one_way(answer: Answer) -> Inclusion
-    ensures { result ≡ inclusion_of answer }
+impl From<Answer> for Inclusion {
+    ghost from_gives = { λ answer r. r ≡ inclusion_of answer };
+
+    fn from(answer: Answer) -> Inclusion {
+        match answer {
+            Answer::Same { kept, examined } => Inclusion::Within { kept, examined },
+            Answer::Different {
+                kept,
+                examined,
+                length,
+            } => Inclusion::NotWithin {
+                kept,
+                examined,
+                length,
+            },
+            Answer::Full { kept, examined } => Inclusion::Full { kept, examined },
+        }
+    }
+}
+
+// The comparison that the one-way question is: X+Y with Y.
+pub fn joined<'a>(question: &Question<'a>) -> Question<'a>
+    ensures { question_in result ≡ joined (question_in question.now) }
 {
-    match answer {
-        Answer::Same(kept, examined) => Inclusion::Within(kept, examined),
-        Answer::Different(kept, examined, length) => Inclusion::NotWithin(kept, examined, length),
-        Answer::Full(kept, examined) => Inclusion::Full(kept, examined),
-        Answer::Refused(number) => Inclusion::Refused(number),
+    Question {
+        x: sets::union(question.x, question.y),
+        ..*question
     }
 }
 
 // Asks in a given room whether all that is accepted from `x` is accepted from `y`. X+Y and Y are refused exactly as X and Y are.
-pub fn within(
-    states: usize,
-    letters: usize,
-    finals: u64,
-    rows: &[u64],
-    x: u64,
-    y: u64,
-    room: usize,
-    lefts: &mut [u64],
-    rights: &mut [u64],
-    parents: &mut [u16],
-    taken: &mut [u8],
-    sequence: &mut [u8],
-) -> Inclusion
-    ensures { Includes states letters finals rows.now x y room lefts rights parents taken sequence result }
+pub fn within(question: &Question, room: usize, tables: &mut Tables) -> Result<Inclusion, Refusal>
+    ensures { Includes question.now room tables.old result tables.new }
 {
-    let either = sets::union(x, y);
-    let answer = crate::compare(
-        states, letters, finals, rows, either, y, room, lefts, rights, parents, taken, sequence,
-    );
-    one_way(answer)
+    let answer = crate::compare(&joined(question), room, tables)?;
+    Ok(Inclusion::from(answer))
 }

@@ -1,88 +1,114 @@
 // The comparison of two sets of states: the walk of the scope (§5) over lent number slices.
 #![tactic(auto)]
 
-ghost use Rattle.std.specs.Prelude.{◌≡◌, leb};
-ghost use Rattle.verdict.specs.Tests.{need, each};
-ghost use Rattle.verdict.specs.declared.Verdict.TheVariants.{Fine};
+ghost use Rattle.std.specs.Prelude.{◌≡◌, ◌≤◌, leb, length, take, Ok};
+ghost use Rattle.verdict.specs.Tests.{Decides, need, each};
+ghost use Rattle.verdict.specs.Verdict.Verdict.{Fine};
+ghost use Rattle.verdict.specs.Refusals.{said};
 ghost use Rattle.sets.specs.Rooms.{default_room};
-ghost use Rattle.comparison.specs.Answers.{lent_of, call_of, compare_test, Compares};
-ghost use Rattle.comparison.specs.Inner.{Spellable, Spelt, Proposable, Proposed, Ready, Deals};
+ghost use Rattle.comparison.specs.Answers.{number_of, values_of, question_in, call_in, compare_test, Compares};
+ghost use Rattle.comparison.specs.Inner.{Spellable, Spells, Proposable, Proposed, Ready, Deals};
 
 pub mod inclusion; // inclusion.rt: the one-way question
 
+use congruence::Pairs;
+use pattern::{Question, Shaped};
 use sets::States;
-use verdict::Verdict;
+use verdict::Refusal;
 
-// What a comparison answers: kept, examined and, for DIFFERENT, length; or the number of a refusal.
-#[derive(Drop)]
+// What a comparison answers: kept, examined and, for DIFFERENT, length.
+#[derive(Clone, Copy)]
 pub enum Answer {
-    Same(usize, usize),
-    Different(usize, usize, usize),
-    Full(usize, usize),
-    Refused(u8),
+    Same {
+        kept: usize,
+        examined: usize,
+    },
+    Different {
+        kept: usize,
+        examined: usize,
+        length: usize,
+    },
+    Full {
+        kept: usize,
+        examined: usize,
+    },
+}
+
+impl Answer {
+    // How many records are kept.
+    pub fn kept(&self) -> usize
+        ensures { result ≡ (values_of (Ok self.now)).kept }
+    {
+        match *self {
+            Answer::Same { kept, .. }
+            | Answer::Different { kept, .. }
+            | Answer::Full { kept, .. } => kept,
+        }
+    }
+
+    // Whether it is FULL.
+    pub fn is_full(&self) -> bool
+        ensures { Decides (number_of (Ok self.now) ≡ 2) result }
+    {
+        matches!(self, Answer::Full { .. })
+    }
+}
+
+// What a comparison is lent: a list for each column of the records, and the sequence bytes.
+#[derive(Drop)]
+pub struct Tables<'a> {
+    pub lefts: &'a mut [u64],
+    pub rights: &'a mut [u64],
+    pub parents: &'a mut [u16],
+    pub taken: &'a mut [u8],
+    pub sequence: &'a mut [u8],
+}
+
+impl Tables<'_> {
+    ghost use Rattle.comparison.specs.Inner.{Lists};
+
+    // The two sides of the first `kept` records.
+    fn listed(&self, kept: usize) -> Pairs<'_>
+        requires lefts { kept ≤ length self.now.lefts.now }
+        requires rights { kept ≤ length self.now.rights.now }
+        ensures { Lists self.now kept result }
+    {
+        Pairs {
+            lefts: &self.lefts[..kept],
+            rights: &self.rights[..kept],
+        }
+    }
 }
 
 // BAD-ROOM: the room is at most each of the bounds.
-fn room_test(room: usize, bounds: &[usize]) -> Verdict
-    ensures { result ≡ each (λ most. need (leb room most) 13) bounds.now }
+fn room_test(room: usize, bounds: &[usize]) -> Result<(), Refusal>
+    ensures { said result ≡ each (λ most. need (leb room most) 13) bounds.now }
 {
-    let mut i = 0;
-    while i < bounds.len() {
-        let test = verdict::need(room <= bounds[i], 13);
-        let Verdict::Fine = test else {
-            return test;
-        };
-        i += 1;
-    }
-    Verdict::Fine
+    verdict::every(bounds, |most| verdict::need(room <= most, Refusal::BadRoom))
 }
 
 // The tests of a comparison, in the scope's order.
-fn compare_test(
-    states: usize,
-    letters: usize,
-    finals: u64,
-    rows: &[u64],
-    x: u64,
-    y: u64,
-    room: usize,
-    lefts: &[u64],
-    rights: &[u64],
-    parents: &[u16],
-    taken: &[u8],
-    sequence: &[u8],
-) -> Verdict
-    ensures { result ≡ compare_test (call_of states letters finals rows.now x y room (lent_of lefts.now rights.now parents.now taken.now sequence.now)) }
+fn compare_test(question: &Question, room: usize, tables: &Tables) -> Result<(), Refusal>
+    ensures { said result ≡ compare_test (call_in question.now room tables.now) }
 {
-    let shape = pattern::shape_test(states, letters, rows);
-    let Verdict::Fine = shape else {
-        return shape;
-    };
+    let pattern = question.pattern;
+    pattern.shape_test()?;
     let bounds = [
         States::MAX_ROOM,
-        sequence.len(),
-        lefts.len(),
-        rights.len(),
-        parents.len(),
-        taken.len(),
+        tables.sequence.len(),
+        tables.lefts.len(),
+        tables.rights.len(),
+        tables.parents.len(),
+        tables.taken.len(),
     ];
-    let fits = room_test(room, &bounds);
-    let Verdict::Fine = fits else {
-        return fits;
-    };
-    let masks = pattern::masks_test(states, finals, rows);
-    let Verdict::Fine = masks else {
-        return masks;
-    };
-    let left = pattern::set_test(states, x);
-    let Verdict::Fine = left else {
-        return left;
-    };
-    pattern::set_test(states, y)
+    room_test(room, &bounds)?;
+    pattern.masks_test()?;
+    pattern::set_test(pattern.states, question.x)?;
+    pattern::set_test(pattern.states, question.y)
 }
 
 // A candidate: its two sets, and the record and the letter that they came from.
-#[derive(Drop)]
+#[derive(Clone, Copy)]
 struct Candidate {
     left: u64,
     right: u64,
@@ -90,72 +116,56 @@ struct Candidate {
     letter: usize,
 }
 
-// Candidate number `examined`, by the records whose sides are `lefts` and `rights`.
-fn propose(
-    states: usize,
-    letters: usize,
-    rows: &[u64],
-    x: u64,
-    y: u64,
-    lefts: &[u64],
-    rights: &[u64],
-    examined: usize,
-) -> Candidate
-    requires { Proposable states letters rows.now lefts.now rights.now examined }
-    ensures { Proposed states letters rows.now x y lefts.now rights.now examined result }
+// Candidate number `examined`, by the records whose sides are listed.
+fn propose(question: &Question, listed: &Pairs, examined: usize) -> Candidate
+    requires { Proposable (question_in question.now).pattern listed.now.lefts.now examined }
+    ensures { Proposed (question_in question.now) listed.now.lefts.now listed.now.rights.now examined result }
 {
-    if examined == 0 {
+    let Some(e) = examined.checked_sub(1) else {
         return Candidate {
-            left: x,
-            right: y,
+            left: question.x,
+            right: question.y,
             parent: 0,
             letter: 0,
         };
-    }
-    let e = examined - 1;
-    let parent = e / letters;
-    let letter = e % letters;
-    let left = pattern::next(states, letters, rows, lefts[parent], letter);
-    let right = pattern::next(states, letters, rows, rights[parent], letter);
+    };
+    let pattern = question.pattern;
+    let parent = e / pattern.letters;
+    let letter = e % pattern.letters;
+    let shaped = Shaped { pattern };
     Candidate {
-        left: left,
-        right: right,
-        parent: parent,
-        letter: letter,
+        left: shaped.next(listed.lefts[parent], letter),
+        right: shaped.next(listed.rights[parent], letter),
+        parent,
+        letter,
     }
 }
 
-fn wide(x: u16) -> usize
-    ensures { result ≡ x }
-{
-    x as usize
-}
-
-// Writes the letters from the start to record `from`, and `last` after them; gives how many they are.
-// The way up is gone twice, to count the letters and then to write them from the end: no second buffer.
-fn spell(parents: &[u16], taken: &[u8], from: usize, last: u8, sequence: &mut [u8]) -> usize
-    requires { Spellable parents.now taken.now from sequence.old }
-    ensures { Spelt parents.now taken.now from last sequence.old sequence.new result }
+// Writes the letters from the start to record `from`, one of the first `kept`, and `last` after them; gives how many they are.
+// The way up is gone twice, to count the letters and then to write them from the end: no second buffer. By `while`: each record names the next.
+fn spell(tables: &mut Tables, kept: usize, from: usize, last: u8) -> usize
+    requires { Spellable (take kept tables.old.parents.now) (take kept tables.old.taken.now) from tables.old.sequence.now }
+    ensures { Spells tables.old kept from last result tables.new }
 {
     let mut count = 0;
     let mut i = from;
     while i != 0 {
-        i = wide(parents[i]);
+        i = usize::from(tables.parents[i]);
         count += 1;
     }
-    sequence[count] = last;
+    tables.sequence[count] = last;
     let mut at = count;
     let mut j = from;
     while j != 0 {
         at -= 1;
-        sequence[at] = taken[j];
-        j = wide(parents[j]);
+        tables.sequence[at] = tables.taken[j];
+        j = usize::from(tables.parents[j]);
     }
     count + 1
 }
 
 // What became of one candidate: the walk goes on with so many records kept, or it stops.
-#[derive(Drop)]
+#[derive(Clone, Copy)]
 enum Dealt {
     On(usize),
     Different(usize),
@@ -165,159 +175,84 @@ enum Dealt {
 // Deals with candidate number `examined`, which is there, where `kept` records are kept: rules 1 to 4 in their order.
 #[inline(always)]
 fn deal(
-    states: usize,
-    letters: usize,
-    finals: u64,
-    rows: &[u64],
-    x: u64,
-    y: u64,
+    question: &Question,
     room: usize,
     kept: usize,
     examined: usize,
-    lefts: &mut [u64],
-    rights: &mut [u64],
-    parents: &mut [u16],
-    taken: &mut [u8],
-    sequence: &mut [u8],
+    tables: &mut Tables,
 ) -> Dealt
-    requires { Ready (call_of states letters finals rows.now x y room (lent_of lefts.old rights.old parents.old taken.old sequence.old)) kept examined }
-    ensures { Deals states letters finals rows.now x y room kept examined lefts rights parents taken sequence result }
+    requires { Ready (call_in question.now room tables.old) kept examined }
+    ensures { Deals question.now room kept examined tables.old result tables.new }
 {
-    let next = propose(
-        states,
-        letters,
-        rows,
-        x,
-        y,
-        &lefts[..kept],
-        &rights[..kept],
-        examined,
-    );
-    let left = next.left;
-    let right = next.right;
-    let parent = next.parent;
-    let letter = next.letter as u8;
-    if congruence::congruent(&lefts[..kept], &rights[..kept], left, right) {
+    let listed = tables.listed(kept);
+    let next = propose(question, &listed, examined);
+    let Candidate {
+        left,
+        right,
+        parent,
+        letter,
+    } = next;
+    if listed.congruent(left, right) {
         return Dealt::On(kept);
     }
+    let finals = question.pattern.finals;
     let a = sets::meets(left, finals);
     let b = sets::meets(right, finals);
     if a != b {
         if examined == 0 {
             return Dealt::Different(0);
         }
-        let length = spell(&parents[..kept], &taken[..kept], parent, letter, sequence);
+        let length = spell(tables, kept, parent, letter as u8);
         return Dealt::Different(length);
     }
     if kept >= room {
         return Dealt::Full;
     }
-    lefts[kept] = left;
-    rights[kept] = right;
-    parents[kept] = parent as u16;
-    taken[kept] = letter;
+    tables.lefts[kept] = left;
+    tables.rights[kept] = right;
+    tables.parents[kept] = parent as u16;
+    tables.taken[kept] = letter as u8;
     Dealt::On(kept + 1)
 }
 
-// The walk of a question that is not refused: one candidate after another, until none is left.
+// The walk of a question that is not refused: one candidate after another, until none is left. By `while`: each record kept adds candidates.
 #[inline(always)]
-fn run(
-    states: usize,
-    letters: usize,
-    finals: u64,
-    rows: &[u64],
-    x: u64,
-    y: u64,
-    room: usize,
-    lefts: &mut [u64],
-    rights: &mut [u64],
-    parents: &mut [u16],
-    taken: &mut [u8],
-    sequence: &mut [u8],
-) -> Answer
-    requires { compare_test (call_of states letters finals rows.now x y room (lent_of lefts.old rights.old parents.old taken.old sequence.old)) ≡ Fine }
-    ensures { Compares states letters finals rows.now x y room lefts rights parents taken sequence result }
+fn run(question: &Question, room: usize, tables: &mut Tables) -> Answer
+    requires { compare_test (call_in question.now room tables.old) ≡ Fine }
+    ensures { Compares question.now room tables.old (Ok result) tables.new }
 {
     let mut kept = 0;
     let mut examined = 0;
-    while examined < 1 + letters * kept {
-        let dealt = deal(
-            states, letters, finals, rows, x, y, room, kept, examined, lefts, rights, parents,
-            taken, sequence,
-        );
+    while examined < 1 + question.pattern.letters * kept {
+        let dealt = deal(question, room, kept, examined, tables);
+        examined += 1;
         match dealt {
-            Dealt::On(more) => {
-                kept = more;
-                examined += 1;
-            }
+            Dealt::On(more) => kept = more,
             Dealt::Different(length) => {
-                return Answer::Different(kept, examined + 1, length);
+                return Answer::Different {
+                    kept,
+                    examined,
+                    length,
+                };
             }
-            Dealt::Full => {
-                return Answer::Full(kept, examined + 1);
-            }
+            Dealt::Full => return Answer::Full { kept, examined },
         }
     }
-    Answer::Same(kept, examined)
+    Answer::Same { kept, examined }
 }
 
-// Compares the sets `x` and `y` of states of a pattern in a given room.
+// Compares two sets of states of a pattern in a given room.
 #[inline(always)]
-pub fn compare(
-    states: usize,
-    letters: usize,
-    finals: u64,
-    rows: &[u64],
-    x: u64,
-    y: u64,
-    room: usize,
-    lefts: &mut [u64],
-    rights: &mut [u64],
-    parents: &mut [u16],
-    taken: &mut [u8],
-    sequence: &mut [u8],
-) -> Answer
-    ensures { Compares states letters finals rows.now x y room lefts rights parents taken sequence result }
+pub fn compare(question: &Question, room: usize, tables: &mut Tables) -> Result<Answer, Refusal>
+    ensures { Compares question.now room tables.old result tables.new }
 {
-    let test = compare_test(
-        states, letters, finals, rows, x, y, room, lefts, rights, parents, taken, sequence,
-    );
-    if let Verdict::Against(number) = test {
-        return Answer::Refused(number);
-    }
-    run(
-        states, letters, finals, rows, x, y, room, lefts, rights, parents, taken, sequence,
-    )
+    compare_test(question, room, tables)?;
+    Ok(run(question, room, tables))
 }
 
 // The short form: the default room.
-pub fn compare_default(
-    states: usize,
-    letters: usize,
-    finals: u64,
-    rows: &[u64],
-    x: u64,
-    y: u64,
-    lefts: &mut [u64],
-    rights: &mut [u64],
-    parents: &mut [u16],
-    taken: &mut [u8],
-    sequence: &mut [u8],
-) -> Answer
-    ensures { Compares states letters finals rows.now x y default_room lefts rights parents taken sequence result }
+pub fn compare_default(question: &Question, tables: &mut Tables) -> Result<Answer, Refusal>
+    ensures { Compares question.now default_room tables.old result tables.new }
 {
-    compare(
-        states,
-        letters,
-        finals,
-        rows,
-        x,
-        y,
-        States::DEFAULT_ROOM,
-        lefts,
-        rights,
-        parents,
-        taken,
-        sequence,
-    )
+    compare(question, States::DEFAULT_ROOM, tables)
 }

@@ -1,59 +1,22 @@
 -- Closing as a function that computes: passes until one adds nothing. So congruence by a list of pairs is decided. Assumes nothing.
 use mathlib.Core.Path.{◌≡◌, refl, sym}
-use mathlib.Core.Bool.{Bool, true, false, cond, true≢false}
+use mathlib.Core.Bool.{Bool, true, false, true≢false}
 use mathlib.Core.List.{List, [], ◌∷◌}
-use Prim.Native.Nat.{ℕ, zero, suc, ◌+◌, ◌≤◌, ◌<◌}
+use Prim.Native.Nat.{ℕ, zero, suc, ◌+◌, ◌<◌}
 use native.Mathlib.Decide.{ℕ_discrete}
-use native.Mathlib.Numerals.{add-one}
 use native.Mathlib.Omega.{arith}
 use lib.ListN.{length, get_or}
-use lib.Bits.{bit_or, bit_and}
+use lib.Bits.{bit_or}
 use lib.Dec.{eqb}
 use borrow.Author.Tests.{eqb-true, eqb-false}
 use Rattle.sets.specs.Sets.{Within}
-use Rattle.sets.proofs.Inclusion.{within_trans, within_left, within_right, within_le, within_test}
-use Rattle.sets.proofs.Growing.{Stepped, Passed, took, passed_by, stepped_both, passed_none, passed_more}
+use Rattle.sets.proofs.Inclusion.{within_trans, within_left, within_right, within_le}
 use Rattle.congruence.specs.Congruence.{Congruent, Listed}
 use Rattle.congruence.specs.Closing.{Grows, Closed, Closes}
-use Rattle.congruence.specs.Closing.Grows.{nothing, right, left}
+use Rattle.congruence.specs.Closing.Grows.{nothing}
 use Rattle.congruence.proofs.Growth.{grown_on, grown_under}
-use Rattle.congruence.proofs.Passes.{StillAt, passed_closed}
+use Rattle.congruence.proofs.Passes.{passed, whole, passed_closed}
 use Rattle.congruence.proofs.Deciding.{closing_decides}
-
--- ---- one pass
-
--- where a lies within m, b is added
-unfoldable pub added : ℕ → ℕ → ℕ → ℕ
-added a b m = cond (eqb (bit_and a m) a) (bit_or b m) m
-
--- m after the first i pairs
-unfoldable pub passed : List ℕ → List ℕ → ℕ → ℕ → ℕ
-passed ls rs zero m = m
-passed ls rs (suc i) m = added (get_or rs i 0) (get_or ls i 0) (added (get_or ls i 0) (get_or rs i 0) (passed ls rs i m))
-
-added_stepped : {Keeps : ℕ → Type 0} (a b m : ℕ) → Keeps m → (Within a m → Keeps (bit_or b m)) → Stepped Keeps (Within a m → Within b m) m (added a b m)
-unfolding added
-added_stepped {Keeps} a b m k f = pick (eqb (bit_and a m) a) refl
-  where
-    pick : (t : Bool) → eqb (bit_and a m) a ≡ t → Stepped Keeps (Within a m → Within b m) m (cond t (bit_or b m) m)
-    pick true e = took (f ((within_test a m).0 (eqb-true _ _ e))) refl
-    pick false e = passed_by k (λ w. eqb-false _ _ e ((within_test a m).1 w)) refl
-
-module _ (ls rs : List ℕ) where
-  passed_first : (m i : ℕ) → i ≤ length ls → Passed (Grows (Listed ls rs) m) (StillAt ls rs) (length ls) m i (passed ls rs i m)
-  unfolding passed
-  passed_first m zero l = passed_none nothing
-  passed_first m (suc i) l =
-      let p = passed_first m i (omega arith) in
-      let a = get_or ls i 0 in
-      let b = get_or rs i 0 in
-      let pair : Listed ls rs a b = record { at = i; below = l; left = refl; right = refl } in
-      let s = added_stepped a b (passed ls rs i m) p.grown.keeps (λ w. right p.grown.keeps pair w) in
-      let t = added_stepped b a _ s.grown.keeps (λ w. left s.grown.keeps pair w) in
-      rw add-one at (passed_more i l p (stepped_both (λ k. Within b k → Within a k) s t))
-
-  whole : (m : ℕ) → Passed (Grows (Listed ls rs) m) (StillAt ls rs) (length ls) m (length ls) (passed ls rs (length ls) m)
-  whole m = passed_first m (length ls) (omega arith)
 
 -- ---- passes until one adds nothing
 

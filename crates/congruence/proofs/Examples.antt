@@ -2,8 +2,9 @@
 use mathlib.Core.List.{List, [], ◌∷◌}
 use Prim.Native.Nat.{ℕ}
 use Rattle.congruence.specs.Congruence.{Listed}
-use Rattle.congruence.specs.Closing.{Closes}
-use Rattle.congruence.proofs.Computed.{added, passed, passes, joined, top, closing, closing_closes}
+use Rattle.congruence.specs.Closing.{added, Closes}
+use Rattle.congruence.proofs.Passes.{passed}
+use Rattle.congruence.proofs.Computed.{passes, joined, top, closing, closing_closes}
 
 abbrev lefts : List ℕ
 lefts = 2 ∷ 1 ∷ []

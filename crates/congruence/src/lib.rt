@@ -3,63 +3,82 @@
 
 ghost use Rattle.std.specs.Prelude.{◌≡◌, length};
 ghost use Rattle.verdict.specs.Tests.{Decides};
-ghost use Rattle.congruence.specs.Congruence.{Congruent, Listed};
-ghost use Rattle.congruence.specs.Closing.{Closes, Passes, Toward};
+ghost use Rattle.pattern.specs.Pattern.{AllGood};
+ghost use Rattle.congruence.specs.Congruence.{Congruent};
+ghost use Rattle.congruence.specs.Closing.{added, Closes, Passes, Toward};
 
-// One pass over the listed pairs: where one side of a pair lies within the set, the other is added. It ends once the goal lies within.
-pub fn pass(lefts: &[u64], rights: &[u64], set: u64, goal: u64) -> u64
-    requires { length lefts.now ≡ length rights.now }
-    ensures { Passes (Listed lefts.now rights.now) set goal result }
+// A list of pairs, as its two sides.
+#[derive(Clone, Copy)]
+pub struct Pairs<'a> {
+    pub lefts: &'a [u64],
+    pub rights: &'a [u64],
+    ghost paired: { length lefts.now ≡ length rights.now },
+}
+
+// Where `a` lies within the mask, `b` is added.
+fn added(a: u64, b: u64, mask: u64) -> u64
+    ensures { result ≡ added a b mask }
 {
-    let mut mask = set;
-    let mut i = 0;
-    while i < lefts.len() {
-        if sets::within(goal, mask) {
-            return mask;
-        }
-        let a = lefts[i];
-        let b = rights[i];
-        if sets::within(a, mask) {
-            mask = sets::union(b, mask);
-        }
-        if sets::within(b, mask) {
-            mask = sets::union(a, mask);
-        }
-        i += 1;
+    if sets::within(a, mask) {
+        return sets::union(b, mask);
     }
     mask
 }
 
-// The set grown by the listed pairs toward a goal: passes until one adds nothing, as it does where the goal lies within.
-pub fn grow(lefts: &[u64], rights: &[u64], set: u64, goal: u64) -> u64
-    requires { length lefts.now ≡ length rights.now }
-    ensures { Toward (Listed lefts.now rights.now) set goal result }
-{
-    let mut mask = set;
-    loop {
-        let before = mask;
-        mask = pass(lefts, rights, before, goal);
-        if mask == before {
-            break mask;
+// Every mask is a set of 64 states, by its type. It does nothing, and tells so much of a slice in a field.
+fn all_fit(masks: &[u64])
+    ensures { AllGood 64 masks.now }
+{}
+
+impl Pairs<'_> {
+    ghost use Rattle.congruence.specs.Lent.{listed_in};
+
+    // One pass over the listed pairs: where one side of a pair lies within the set, the other is added. It ends once the goal lies within.
+    pub fn pass(&self, set: u64, goal: u64) -> u64
+        ensures { Passes (listed_in self.now) set goal result }
+    {
+        let mut mask = set;
+        for (a, b) in self.lefts.iter().zip(self.rights) {
+            if sets::within(goal, mask) {
+                return mask;
+            }
+            mask = added(*a, *b, mask);
+            mask = added(*b, *a, mask);
+        }
+        mask
+    }
+
+    // The set grown by the listed pairs toward a goal: passes until one adds nothing, as it does where the goal lies within.
+    // By `loop`: how many passes that takes shows only when it ends.
+    pub fn grow(&self, set: u64, goal: u64) -> u64
+        ensures { Toward (listed_in self.now) set goal result }
+    {
+        let mut mask = set;
+        loop {
+            let before = mask;
+            mask = self.pass(before, goal);
+            if mask == before {
+                break mask;
+            }
         }
     }
-}
 
-// The set closed by the listed pairs: grown toward every state, so until no pair adds anything.
-pub fn close(lefts: &[u64], rights: &[u64], set: u64) -> u64
-    requires { length lefts.now ≡ length rights.now }
-    ensures { Closes (Listed lefts.now rights.now) set result }
-{
-    grow(lefts, rights, set, u64::MAX)
-}
-
-// Whether two sets are congruent by the listed pairs: each grows until the other lies within. Leaves as soon as the first does not.
-pub fn congruent(lefts: &[u64], rights: &[u64], a: u64, b: u64) -> bool
-    requires { length lefts.now ≡ length rights.now }
-    ensures { Decides (Congruent (Listed lefts.now rights.now) a b) result }
-{
-    if !sets::within(b, grow(lefts, rights, a, b)) {
-        return false;
+    // The set closed by the listed pairs: grown toward every state, so until no pair adds anything.
+    pub fn close(&self, set: u64) -> u64
+        ensures { Closes (listed_in self.now) set result }
+    {
+        all_fit(self.lefts);
+        all_fit(self.rights);
+        self.grow(set, u64::MAX)
     }
-    sets::within(a, grow(lefts, rights, b, a))
+
+    // Whether two sets are congruent by the listed pairs: each grows until the other lies within. Leaves as soon as the first does not.
+    pub fn congruent(&self, a: u64, b: u64) -> bool
+        ensures { Decides (Congruent (listed_in self.now) a b) result }
+    {
+        if !sets::within(b, self.grow(a, b)) {
+            return false;
+        }
+        sets::within(a, self.grow(b, a))
+    }
 }

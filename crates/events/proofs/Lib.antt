@@ -1,4 +1,3 @@
--- Laws that belong to no one function: tests that are computed, the table, the names.
+-- Laws that belong to no one function: tests that are computed, the names.
 pub mod Computed
-pub mod Table
 pub mod Names

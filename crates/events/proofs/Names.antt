@@ -1,12 +1,15 @@
 -- What the names are: none is empty, none is longer than nine bytes, and no two of letters below 32 are alike. Assumes nothing.
-use mathlib.Core.Path.{◌≡◌, refl, sym}
+use mathlib.Core.Path.{◌≡◌, refl, sym, ap}
 use mathlib.Core.Bool.{Bool, not, ◌&&◌}
-use mathlib.Core.List.{◌++◌}
+use mathlib.Core.List.{List, ◌++◌, map}
 use Prim.Native.Nat.{ℕ, ◌<◌, ◌≤◌}
 use native.Mathlib.Decide.{dec_lt}
 use native.Mathlib.Omega.{arith}
 use lib.Dec.{T, leb, leb→le, T_not}
-use lib.ListN.{length, get_or-eq_default}
+use lib.ListN.{length, get_or, get_or-eq_default, get_or-map}
+use Rattle.std.specs.Borrow.{Bor}
+use Rattle.std.proofs.lemmas.List.{get_or_default}
+use Rattle.lent.proofs.Filling.{Splits}
 use Rattle.text.specs.Text.{word, digits, decimal}
 use Rattle.events.specs.Events.{names, event_name}
 use Rattle.events.proofs.Computed.{both, every, every_at, same, same_self}
@@ -14,6 +17,21 @@ use Rattle.events.proofs.Computed.{both, every, every_at, same, same_self}
 pub name_high : (a : ℕ) → 12 ≤ a → event_name a ≡ word "E" ++ decimal a
 unfolding event_name names
 name_high a h = get_or-eq_default names (word "E" ++ decimal a) h
+
+pub name_numbered : (a : ℕ) → 12 ≤ a → Splits (event_name a) (word "E") (decimal a)
+name_numbered a h = record { parts = name_high a h }
+
+-- what a table of slices has at a place is what the list of their bytes has there
+pub bytes_at : (table : List (Bor (List ℕ))) (i : ℕ) (d : Bor (List ℕ)) → (get_or table i d).now ≡ get_or (map (λ (x : Bor (List ℕ)). x.now) table) i d.now
+bytes_at table i d = sym (get_or-map (λ (x : Bor (List ℕ)). x.now) table i d)
+
+-- each of the twelve stands at its letter, in its length
+pub row_is : (a : ℕ) (d : List ℕ) → a < 12 → get_or names a d ≡ event_name a
+unfolding event_name names
+row_is a d h = get_or_default names a d (word "E" ++ decimal a) h
+
+pub length_is : (a : ℕ) (d : List ℕ) → a < 12 → length (get_or names a d) ≡ length (event_name a)
+length_is a d h = ap length (row_is a d h)
 
 -- a name has one to nine bytes
 fair : ℕ → Bool

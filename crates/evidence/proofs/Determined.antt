@@ -4,7 +4,10 @@ use mathlib.Core.List.{List}
 use Prim.Native.Nat.{ℕ, ◌<◌}
 use native.Mathlib.Omega.{arith}
 use native.Mathlib.Decide.{dec_lt}
-use Rattle.verdict.proofs.Ordered.{apart}
+use Rattle.std.specs.Prelude.{Result, Ok, Err}
+use Rattle.verdict.specs.declared.Refusal.{Refusal}
+use Rattle.verdict.proofs.Ordered.{apart, one_number}
+use Rattle.verdict.proofs.Refusals.{one_refusal}
 use Rattle.pattern.specs.Pattern.{Pattern}
 use Rattle.evidence.specs.Evidence.{Offer, HoldsAt, HoldBelow, ByPairs, Checked}
 use Rattle.evidence.specs.Evidence.ByPairs.{all_hold, fails}
@@ -29,8 +32,8 @@ by_pairs_determined (fails l p f) (all_hold k) = absurd (f (k _ l))
 by_pairs_determined (fails l p f) (fails m q g) = ap NotProved (lowest p f q g)
 
 -- two answers that the check may give to one offer are equal
-pub check_determined : {o : Offer} {r s : Answer} → Checked o r → Checked o s → r ≡ s
-check_determined (refuses e) (refuses d) = cc
+pub check_determined : {o : Offer} {r s : Result Answer Refusal} → Checked o r → Checked o s → r ≡ s
+check_determined (refuses e) (refuses d) = ap Err (one_refusal (one_number e d))
 check_determined (refuses e) (not_started d g) = apart d e
 check_determined (refuses e) (started d k q) = apart d e
 check_determined (not_started e f) (refuses d) = apart e d
@@ -38,4 +41,4 @@ check_determined (not_started e f) (not_started d g) = refl
 check_determined (not_started e f) (started d k q) = absurd (f k)
 check_determined (started e h p) (refuses d) = apart e d
 check_determined (started e h p) (not_started d g) = absurd (g h)
-check_determined (started e h p) (started d k q) = by_pairs_determined p q
+check_determined (started e h p) (started d k q) = ap Ok (by_pairs_determined p q)

@@ -2,9 +2,10 @@
 use mathlib.Core.Path.{◌≡◌, refl}
 use mathlib.Core.List.{[], ◌∷◌}
 use Prim.Native.Nat.{ℕ, zero, suc}
+use Rattle.std.specs.Prelude.{Ok}
 use native.Mathlib.Nat.{le_of_suc-le-suc, not-suc-le-zero}
 use native.Mathlib.Omega.{arith}
-use Rattle.verdict.specs.declared.Verdict.TheVariants.{Fine}
+use Rattle.verdict.specs.Verdict.Verdict.{Fine}
 use Rattle.verdict.specs.Tests.{need, in_order, each}
 use Rattle.sets.specs.Sets.{meets}
 use Rattle.pattern.specs.Tests.{size_test, table_test, set_test, shape_test, masks_test}
@@ -31,7 +32,7 @@ second_fails : HoldsAt needless.pattern needless.lefts needless.rights 1 → ⊥
 unfolding accepts reach meets
 second_fails h = let e = h.agrees in let z : ◌≡◌ {A = ℕ} 0 1 = cc in omega arith
 
-pub not_proved_yet_same : Checked needless (NotProved 1) × SameLanguage needless.pattern needless.x needless.y
+pub not_proved_yet_same : Checked needless (Ok (NotProved 1)) × SameLanguage needless.pattern needless.x needless.y
 not_proved_yet_same = (
   started not_refused (same 1) (fails {i = 1} (omega arith) first_holds second_fails),
   record { words = λ w o. refl },

@@ -1,7 +1,6 @@
 -- Laws that belong to no one function.
 pub mod Validity
 pub mod Refusing
-pub mod Searching
 pub mod Starting
 pub mod Meaning
 pub mod Determined

@@ -2,6 +2,7 @@
 use mathlib.Core.List.{List}
 use Prim.Native.Nat.{ℕ}
 use lib.ListN.{length}
+use Rattle.std.specs.Prelude.{Ok}
 use Rattle.pattern.specs.Pattern.{Pattern}
 use Rattle.pattern.specs.Language.{SameLanguage}
 use Rattle.congruence.specs.Congruence.{Listed}
@@ -17,5 +18,5 @@ list_progress : {P : Pattern} {lefts rights : List ℕ} → HoldBelow P lefts ri
 list_progress {P} {lefts} {rights} f = record { each = λ a b r. rw (← r.left, ← r.right) (f r.at r.below) }
 
 -- whoever wrote the list: PROVED, and the languages are equal
-pub evidence_means_same : {o : Offer} → Checked o Proved → SameLanguage o.pattern o.x o.y
+pub evidence_means_same : {o : Offer} → Checked o (Ok Proved) → SameLanguage o.pattern o.x o.y
 evidence_means_same (started fine start (all_hold f)) = up_to_congruence (list_progress f) start

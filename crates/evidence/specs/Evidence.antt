@@ -7,9 +7,11 @@
 --   ValidOffer   an offer that is not refused (`offer_valid`)
 --   Checked      what the check answers: one answer to each offer (`check_determined`)
 --   number_of, place_of   the scope's number of an answer, and the place returned with it; what they mean stands in specs/Meaning
-use Rattle.std.specs.Prelude.{◌≡◌, ◌&&◌, List, [], ◌∷◌, ℕ, ◌≤◌, ◌<◌, length, get_or, leb, eqb}
-use Rattle.verdict.specs.declared.Verdict.{Verdict}
-use Rattle.verdict.specs.declared.Verdict.TheVariants.{Fine, Against}
+use Rattle.std.specs.Prelude.{◌≡◌, ◌&&◌, List, [], ◌∷◌, ℕ, ◌≤◌, ◌<◌, length, get_or, leb, eqb, Result, Ok, Err}
+use Rattle.verdict.specs.declared.Refusal.{Refusal}
+use Rattle.verdict.specs.Refusals.{number}
+use Rattle.verdict.specs.Verdict.{Verdict}
+use Rattle.verdict.specs.Verdict.Verdict.{Fine, Against}
 use Rattle.verdict.specs.Tests.{need, in_order, each}
 use Rattle.sets.specs.Sets.{Good}
 use Rattle.sets.specs.Rooms.{max_room}
@@ -18,7 +20,7 @@ use Rattle.pattern.specs.Tests.{shape_test, masks_test, set_test}
 use Rattle.congruence.specs.Congruence.{Congruent, Listed}
 use Rattle.congruence.specs.Progress.{Progresses}
 use Rattle.evidence.specs.declared.Answer.{Answer}
-use Rattle.evidence.specs.declared.Answer.TheVariants.{Proved, NotProved, Refused}
+use Rattle.evidence.specs.declared.Answer.TheVariants.{Proved, NotProved}
 
 pub record Offer : Type 0 where
   pub pattern : Pattern
@@ -80,18 +82,18 @@ pub data ByPairs (P : Pattern) (lefts rights : List ℕ) : Answer → Type 0 whe
   fails : {i : ℕ} → i < length lefts → HoldBelow P lefts rights i → (HoldsAt P lefts rights i → ⊥) → ByPairs P lefts rights (NotProved i)
 
 -- the starting pair is looked at first: where it is not in order, the place is the number of pairs, whatever the pairs do
-pub data Checked (o : Offer) : Answer → Type 0 where
-  refuses : {w : ℕ} → check_test o ≡ Against w → Checked o (Refused w)
-  not_started : check_test o ≡ Fine → (Starts o.lefts o.rights o.x o.y → ⊥) → Checked o (NotProved (length o.lefts))
-  started : {r : Answer} → check_test o ≡ Fine → Starts o.lefts o.rights o.x o.y → ByPairs o.pattern o.lefts o.rights r → Checked o r
+pub data Checked (o : Offer) : Result Answer Refusal → Type 0 where
+  refuses : {why : Refusal} → check_test o ≡ Against (number why) → Checked o (Err why)
+  not_started : check_test o ≡ Fine → (Starts o.lefts o.rights o.x o.y → ⊥) → Checked o (Ok (NotProved (length o.lefts)))
+  started : {r : Answer} → check_test o ≡ Fine → Starts o.lefts o.rights o.x o.y → ByPairs o.pattern o.lefts o.rights r → Checked o (Ok r)
 
 -- 5 PROVED, 6 NOT-PROVED, or the refusal
-abbrev pub number_of : Answer → ℕ
-number_of Proved = 5
-number_of (NotProved place) = 6
-number_of (Refused w) = w
+abbrev pub number_of : Result Answer Refusal → ℕ
+number_of (Ok Proved) = 5
+number_of (Ok (NotProved place)) = 6
+number_of (Err why) = number why
 
-abbrev pub place_of : Answer → ℕ
-place_of Proved = 0
-place_of (NotProved place) = place
-place_of (Refused w) = 0
+abbrev pub place_of : Result Answer Refusal → ℕ
+place_of (Ok Proved) = 0
+place_of (Ok (NotProved place)) = place
+place_of (Err why) = 0

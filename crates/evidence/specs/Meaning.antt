@@ -4,7 +4,8 @@
 --   Holding       evidence that holds: X and Y are congruent by the list, and every pair holds
 --   FailsAt       where evidence fails: the number of pairs where X and Y are not congruent by the list, else the lowest failing pair
 --   HonestCheck   what an answer means (`check_honest`)
-use Rattle.std.specs.Prelude.{◌≡◌, ◌↔◌, ℕ, ◌≤◌, ◌<◌, length}
+use Rattle.std.specs.Prelude.{◌≡◌, ◌↔◌, ℕ, ◌≤◌, ◌<◌, length, Result, Ok, Err}
+use Rattle.verdict.specs.declared.Refusal.{Refusal}
 use Rattle.verdict.specs.Lines.{Lines, Applies}
 use Rattle.verdict.specs.Lines.Lines.{none, line}
 use Rattle.sets.specs.Sets.{Good}
@@ -14,12 +15,10 @@ use Rattle.pattern.specs.Refusals.{MasksGood, shape_lines}
 use Rattle.pattern.specs.Language.{SameLanguage}
 use Rattle.evidence.specs.Evidence.{Offer, ValidOffer, Starts, HoldsAt, HoldBelow, number_of, place_of}
 use Rattle.evidence.specs.declared.Answer.{Answer}
-use Rattle.evidence.specs.declared.Answer.TheVariants.{Proved, NotProved, Refused}
 
-abbrev pub IsRefused : Answer → Type 0
-IsRefused Proved = ⊥
-IsRefused (NotProved place) = ⊥
-IsRefused (Refused w) = Unit {0}
+abbrev pub IsRefused : Result Answer Refusal → Type 0
+IsRefused (Ok answer) = ⊥
+IsRefused (Err why) = Unit {0}
 
 -- ---- the refusals
 
@@ -47,7 +46,7 @@ pub data FailsAt (o : Offer) : ℕ → Type 0 where
 
 -- 5 PROVED exactly where the evidence holds, and then the languages are equal, whoever wrote the list; 6 NOT-PROVED with its place exactly where
 -- it fails there; a refusal, 10 and up, exactly where a line applies, by its number. The place is 0 but for NOT-PROVED.
-pub record HonestCheck (o : Offer) (a : Answer) : Type 0 where
+pub record HonestCheck (o : Offer) (a : Result Answer Refusal) : Type 0 where
   pub proved : (number_of a ≡ 5) ↔ (ValidOffer o × Holding o)
   pub same : number_of a ≡ 5 → SameLanguage o.pattern o.x o.y
   pub not_proved : (place : ℕ) → ((number_of a ≡ 6) × (place_of a ≡ place)) ↔ (ValidOffer o × FailsAt o place)

@@ -1,157 +1,111 @@
 // Evidence: the check of a list of pairs that somebody else offers.
 #![tactic(auto)]
 
-ghost use Rattle.std.specs.Prelude.{◌≡◌, ◌*◌, ◌≤◌, length};
-ghost use Rattle.verdict.specs.Tests.{Decides};
-ghost use Rattle.pattern.specs.Pattern.{pattern_of};
-ghost use Rattle.evidence.specs.Evidence.{offer_of, Holds, ByPairs, Checked};
-ghost use Rattle.evidence.specs.Evidence.{list_test, pairs_test, check_test};
+ghost use Rattle.std.specs.Prelude.{◌≡◌, ◌↔◌, IsTrue};
+ghost use Rattle.verdict.specs.Refusals.{said};
+ghost use Rattle.pattern.specs.Lent.{pattern_in};
+ghost use Rattle.evidence.specs.Evidence.{list_test, Holds, ByPairs};
 
+use congruence::Pairs;
+use pattern::{Pattern, Shaped};
 use sets::States;
-use verdict::Verdict;
+use verdict::{Refusal, need};
 
-// What the check of an offer answers; NOT-PROVED has its place.
-#[derive(Drop)]
+// What the check of an offer answers that is not refused; NOT-PROVED has its place. No `Option`: these are the scope's two words.
+#[derive(Clone, Copy)]
 pub enum Answer {
     Proved,
     NotProved(usize),
-    Refused(u8),
 }
 
-// BAD-LIST: a list has at most as many pairs as the largest room.
-#[tactic(auto, unfolding(crate::specs::Evidence::list_test, verdict::specs::Tests::need))]
-fn list_test(lefts: usize, rights: usize) -> Verdict
-    ensures { result ≡ list_test lefts rights }
-{
-    if lefts > States::MAX_ROOM {
-        return Verdict::Against(16);
-    }
-    verdict::need(lefts == rights, 16)
+// What is offered: a pattern, X and Y, and the two sides of a list of pairs.
+#[derive(Clone, Copy)]
+pub struct Offer<'a> {
+    pub pattern: Pattern<'a>,
+    pub x: u64,
+    pub y: u64,
+    pub lefts: &'a [u64],
+    pub rights: &'a [u64],
 }
 
-// BAD-SET: the starting pair and all listed ones.
-fn pairs_test(states: usize, x: u64, y: u64, lefts: &[u64], rights: &[u64]) -> Verdict
-    ensures { result ≡ pairs_test states x y lefts.now rights.now }
+// BAD-LIST: a list has at most as many pairs as the largest room, and two sides of one length.
+#[tactic(auto, unfolding(crate::specs::Evidence::list_test), using(verdict::proofs::Refusals::said_held))]
+fn list_test(lefts: usize, rights: usize) -> Result<(), Refusal>
+    ensures { said result ≡ list_test lefts rights }
 {
-    let first = pattern::set_test(states, x);
-    let Verdict::Fine = first else {
-        return first;
-    };
-    let second = pattern::set_test(states, y);
-    let Verdict::Fine = second else {
-        return second;
-    };
-    let left = pattern::sets_test(states, lefts);
-    let Verdict::Fine = left else {
-        return left;
-    };
-    pattern::sets_test(states, rights)
-}
-
-// The tests of `check`, in the scope's order.
-pub fn check_test(
-    states: usize,
-    letters: usize,
-    finals: u64,
-    rows: &[u64],
-    x: u64,
-    y: u64,
-    lefts: &[u64],
-    rights: &[u64],
-) -> Verdict
-    ensures { result ≡ check_test (offer_of states letters finals rows.now x y lefts.now rights.now) }
-{
-    let shape = pattern::shape_test(states, letters, rows);
-    let Verdict::Fine = shape else {
-        return shape;
-    };
-    let list = list_test(lefts.len(), rights.len());
-    let Verdict::Fine = list else {
-        return list;
-    };
-    let masks = pattern::masks_test(states, finals, rows);
-    let Verdict::Fine = masks else {
-        return masks;
-    };
-    pairs_test(states, x, y, lefts, rights)
+    need(
+        lefts <= States::MAX_ROOM && lefts == rights,
+        Refusal::BadList,
+    )
 }
 
 // Whether the pair (a, b) agrees on the empty sequence and has successors congruent by the list.
-fn holds(
-    states: usize,
-    letters: usize,
-    finals: u64,
-    rows: &[u64],
-    lefts: &[u64],
-    rights: &[u64],
-    a: u64,
-    b: u64,
-) -> bool
-    requires states_bound { states ≤ 64 }
-    requires rows_len { length rows.now ≡ states * letters }
-    requires lefts_len { length lefts.now ≡ length rights.now }
-    ensures { Decides (Holds (pattern_of states letters finals rows.now) lefts.now rights.now a b) result }
+fn holds(pattern: &Shaped, pairs: &Pairs, a: u64, b: u64) -> bool
+    ensures { IsTrue result ↔ Holds (pattern_in pattern.now.pattern) pairs.now.lefts.now pairs.now.rights.now a b }
 {
+    let finals = pattern.pattern.finals;
     if sets::meets(a, finals) != sets::meets(b, finals) {
         return false;
     }
-    let mut letter = 0;
-    while letter < letters {
-        let left = pattern::next(states, letters, rows, a, letter);
-        let right = pattern::next(states, letters, rows, b, letter);
-        if !congruence::congruent(lefts, rights, left, right) {
+    for letter in 0..pattern.pattern.letters {
+        if !pairs.congruent(pattern.next(a, letter), pattern.next(b, letter)) {
             return false;
         }
-        letter += 1;
     }
     true
 }
 
 // The answer to an offer that starts: the lowest failing pair, if any, decides.
-fn by_pairs(
-    states: usize,
-    letters: usize,
-    finals: u64,
-    rows: &[u64],
-    lefts: &[u64],
-    rights: &[u64],
-) -> Answer
-    requires states_bound { states ≤ 64 }
-    requires rows_len { length rows.now ≡ states * letters }
-    requires lefts_len { length lefts.now ≡ length rights.now }
-    ensures { ByPairs (pattern_of states letters finals rows.now) lefts.now rights.now result }
+fn by_pairs(pattern: &Shaped, pairs: &Pairs) -> Answer
+    ensures { ByPairs (pattern_in pattern.now.pattern) pairs.now.lefts.now pairs.now.rights.now result }
 {
-    let mut place = 0;
-    while place < lefts.len() {
-        let a = lefts[place];
-        let b = rights[place];
-        if !holds(states, letters, finals, rows, lefts, rights, a, b) {
-            return Answer::NotProved(place);
-        }
-        place += 1;
+    let fails = |(a, b): (&u64, &u64)| !holds(pattern, pairs, *a, *b);
+    match pairs.lefts.iter().zip(pairs.rights).position(fails) {
+        Some(place) => Answer::NotProved(place),
+        None => Answer::Proved,
     }
-    Answer::Proved
 }
 
-// Checks an offered list of pairs: the starting pair first, then the pairs in their order.
-pub fn check(
-    states: usize,
-    letters: usize,
-    finals: u64,
-    rows: &[u64],
-    x: u64,
-    y: u64,
-    lefts: &[u64],
-    rights: &[u64],
-) -> Answer
-    ensures { Checked (offer_of states letters finals rows.now x y lefts.now rights.now) result }
-{
-    let test = check_test(states, letters, finals, rows, x, y, lefts, rights);
-    if let Verdict::Against(number) = test {
-        return Answer::Refused(number);
+impl Offer<'_> {
+    ghost use Rattle.evidence.specs.Lent.{offer_in};
+    ghost use Rattle.evidence.specs.Evidence.{pairs_test, check_test, Checked};
+
+    // BAD-SET: the starting pair and all listed ones.
+    fn pairs_test(&self) -> Result<(), Refusal>
+        ensures { said result ≡ pairs_test self.now.pattern.states self.now.x self.now.y self.now.lefts.now self.now.rights.now }
+    {
+        let states = self.pattern.states;
+        pattern::set_test(states, self.x)?;
+        pattern::set_test(states, self.y)?;
+        pattern::sets_test(states, self.lefts)?;
+        pattern::sets_test(states, self.rights)
     }
-    if !congruence::congruent(lefts, rights, x, y) {
-        return Answer::NotProved(lefts.len());
+
+    // The tests of `check`, in the scope's order.
+    pub fn check_test(&self) -> Result<(), Refusal>
+        ensures { said result ≡ check_test (offer_in self.now) }
+    {
+        self.pattern.shape_test()?;
+        list_test(self.lefts.len(), self.rights.len())?;
+        self.pattern.masks_test()?;
+        self.pairs_test()
     }
-    by_pairs(states, letters, finals, rows, lefts, rights)
+
+    // Checks an offered list of pairs: the starting pair first, then the pairs in their order.
+    pub fn check(&self) -> Result<Answer, Refusal>
+        ensures { Checked (offer_in self.now) result }
+    {
+        self.check_test()?;
+        let pairs = Pairs {
+            lefts: self.lefts,
+            rights: self.rights,
+        };
+        if !pairs.congruent(self.x, self.y) {
+            return Ok(Answer::NotProved(self.lefts.len()));
+        }
+        let pattern = Shaped {
+            pattern: self.pattern,
+        };
+        Ok(by_pairs(&pattern, &pairs))
+    }
 }

@@ -10,7 +10,7 @@ use lib.Dec.{leb}
 use lib.ListN.{length, drop, length-append}
 use lib.Pow.{pow_mono}
 use borrow.Author.Tests.{leb-true, le-leb}
-use Rattle.verdict.specs.declared.Verdict.TheVariants.{Fine}
+use Rattle.verdict.specs.Verdict.Verdict.{Fine}
 use Rattle.verdict.proofs.Ordered.{need_holds, need_fine}
 use Rattle.sets.specs.Sets.{Good}
 use Rattle.sets.specs.Rooms.{max_room}

@@ -4,17 +4,20 @@ use mathlib.Core.List.{List, [], ◌∷◌, ◌++◌, append_assoc}
 use mathlib.Core.Path.{◌≡◌, refl, sym, ap, ◌∙◌}
 use lib.ListN.{length, take, drop}
 use lib.Seq.{take_at, drop_at}
+use Rattle.std.specs.Prelude.{Result, Ok, Err}
+use Rattle.verdict.specs.declared.Refusal.{Refusal}
+use Rattle.verdict.specs.declared.Fault.{Fault}
 use Rattle.verdict.proofs.Ordered.{apart, one_number}
+use Rattle.verdict.proofs.Refusals.{one_refusal}
 use Rattle.lent.proofs.Putting.{put_determined}
-use Rattle.numbers.specs.Format.{got, refused}
+use Rattle.numbers.specs.Format.{got}
 use Rattle.numbers.proofs.Formats.{refused_got}
-use Rattle.patternfile.specs.declared.Written.{Written}
-use Rattle.patternfile.specs.declared.Written.TheVariants as Write
-use Rattle.evidence.specs.Evidence.{Offer, offer_of}
-use Rattle.evidencefile.specs.declared.EvidenceRead.{EvidenceRead}
-use Rattle.evidencefile.specs.declared.EvidenceRead.TheVariants as Read
+use Rattle.numbers.proofs.Places.{refused_is}
+use Rattle.patternfile.proofs.Determined.{same_numbers, same_fault}
+use Rattle.evidence.specs.Evidence.{Offer}
+use Rattle.evidencefile.specs.declared.EvidenceNumbers.{EvidenceNumbers}
 use Rattle.evidencefile.specs.EvidenceFile.{Rooms, Lists, alternating, numbers_of, lay_offer}
-use Rattle.evidencefile.specs.Reader.{FileOf, ReadDone, Reads}
+use Rattle.evidencefile.specs.Reader.{with_lists, FileOf, ReadDone, Reads}
 use Rattle.evidencefile.specs.Writer.{Writes}
 use Rattle.evidencefile.proofs.Sides.{same_sides}
 
@@ -53,32 +56,27 @@ one_offer {rooms} {s} {o} {p} a b =
     let (l, r) = same_sides o.lefts o.rights p.lefts p.rights a.paired b.paired sides in
     offer_path n k f rows x y l r
 
-done_same : {s : List ℕ} {old : Lists} {n k f x y m n' k' f' x' y' m' : ℕ} {new new' : Lists} → ReadDone s old n k f x y m new → ReadDone s old n' k' f' x' y' m' new'
-    → (Read.Done n k f x y m ≡ Read.Done n' k' f' x' y' m') × (new ≡ new')
-done_same {s} {old} {n} {k} {f} {x} {y} {m} {n'} {k'} {f'} {x'} {y'} {m'} p q =
-    let e : offer_of n k f p.rows x y p.lefts p.rights ≡ offer_of n' k' f' q.rows x' y' q.lefts q.rights = one_offer p.file q.file in
-    let en : n ≡ n' = ap (λ (o : Offer). o.pattern.states) e in
-    let ek : k ≡ k' = ap (λ (o : Offer). o.pattern.letters) e in
-    let ef : f ≡ f' = ap (λ (o : Offer). o.pattern.finals) e in
-    let ex : x ≡ x' = ap (λ (o : Offer). o.x) e in
-    let ey : y ≡ y' = ap (λ (o : Offer). o.y) e in
-    let em : m ≡ m' = p.counted ∙ ap (λ (o : Offer). length o.lefts) e ∙ sym q.counted in
-    (rw (en, ek, ef, ex, ey, em) refl, p.written ∙ ap (λ (o : Offer). lay_offer o old) e ∙ sym q.written)
+done_same : {s : List ℕ} {old : Lists} (f f' : EvidenceNumbers) {new new' : Lists} → ReadDone s old f new → ReadDone s old f' new' → (f ≡ f') × (new ≡ new')
+done_same {s} {old} f f' p q =
+    let e : with_lists f p.rows p.lefts p.rights ≡ with_lists f' q.rows q.lefts q.rights = one_offer p.file q.file in
+    let numbers : f.pattern ≡ f'.pattern =
+    same_numbers (ap (λ (o : Offer). o.pattern.states) e) (ap (λ (o : Offer). o.pattern.letters) e) (ap (λ (o : Offer). o.pattern.finals) e) (ap (λ (o : Offer). o.x) e)
+    (ap (λ (o : Offer). o.y) e) in
+    let pairs : f.pairs ≡ f'.pairs = p.counted ∙ ap (λ (o : Offer). length o.lefts) e ∙ sym q.counted in
+    (λ i. record { pattern = numbers i; pairs = pairs i }, p.written ∙ ap (λ (o : Offer). lay_offer o old) e ∙ sym q.written)
 
-pub reader_determined : (s : List ℕ) (old : Lists) (r r' : EvidenceRead) (new new' : Lists) → Reads s old r new → Reads s old r' new' → (r ≡ r') × (new ≡ new')
-reader_determined s old (Read.Done n k f x y m) (Read.Done n' k' f' x' y' m') new new' p q = done_same p q
-reader_determined s old (Read.Done n k f x y m) (Read.Refused w place) new new' p q = absurd (refused_got (sym q.fault ∙ p.file.read))
-reader_determined s old (Read.Refused w place) (Read.Done n k f x y m) new new' p q = absurd (refused_got (sym p.fault ∙ q.file.read))
-reader_determined s old (Read.Refused w place) (Read.Refused w' place') new new' p q =
-    let e : refused w place ≡ refused w' place' = sym p.fault ∙ q.fault in
-    let ew : w ≡ w' = cc in
-    let ep : place ≡ place' = cc in
-    (rw (ew, ep) refl, p.unchanged ∙ sym q.unchanged)
+pub reader_determined : (s : List ℕ) (old : Lists) (r r' : Result EvidenceNumbers Fault) (new new' : Lists) → Reads s old r new → Reads s old r' new' → (r ≡ r') × (new ≡ new')
+reader_determined s old (Ok f) (Ok f') new new' p q = let (e, l) = done_same f f' p q in (ap Ok e, l)
+reader_determined s old (Ok f) (Err fault) new new' p q = absurd (refused_got (sym q.fault ∙ p.file.read))
+reader_determined s old (Err fault) (Ok f) new new' p q = absurd (refused_got (sym p.fault ∙ q.file.read))
+reader_determined s old (Err fault) (Err fault') new new' p q =
+    let (w, place) = refused_is (sym p.fault ∙ q.fault) in
+    (ap Err (same_fault w place), p.unchanged ∙ sym q.unchanged)
 
-pub writer_determined : (o : Offer) (old : List ℕ) (r r' : Written) (new new' : List ℕ) → Writes o old r new → Writes o old r' new' → (r ≡ r') × (new ≡ new')
-writer_determined o old (Write.Done c) (Write.Done c') new new' p q =
+pub writer_determined : (o : Offer) (old : List ℕ) (r r' : Result ℕ Refusal) (new new' : List ℕ) → Writes o old r new → Writes o old r' new' → (r ≡ r') × (new ≡ new')
+writer_determined o old (Ok c) (Ok c') new new' p q =
     let (count, bytes) = put_determined p.written q.written in
-    (ap Write.Done count, bytes)
-writer_determined o old (Write.Done c) (Write.Refused w) new new' p q = apart p.allowed q.against
-writer_determined o old (Write.Refused w) (Write.Done c) new new' p q = apart q.allowed p.against
-writer_determined o old (Write.Refused w) (Write.Refused w') new new' p q = (ap Write.Refused (one_number p.against q.against), p.unchanged ∙ sym q.unchanged)
+    (ap Ok count, bytes)
+writer_determined o old (Ok c) (Err why) new new' p q = apart p.allowed q.against
+writer_determined o old (Err why) (Ok c) new new' p q = apart q.allowed p.against
+writer_determined o old (Err why) (Err why') new new' p q = (ap Err (one_refusal (one_number p.against q.against)), p.unchanged ∙ sym q.unchanged)

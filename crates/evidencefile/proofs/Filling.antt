@@ -4,10 +4,10 @@ use mathlib.Core.List.{List, [], ◌∷◌}
 use mathlib.Core.Path.{◌≡◌, refl, sym, ap, ◌∙◌}
 use native.Mathlib.Omega.{arith}
 use lib.ListN.{length, set, length-set}
-use Rattle.verdict.specs.declared.Verdict.{Verdict}
+use Rattle.verdict.specs.Verdict.{Verdict}
 use Rattle.lent.proofs.Putting.{put_one, put_laid, Left, left_first, left_step, left_done}
-use Rattle.numbers.specs.declared.Number.TheVariants.{Value, Fault}
 use Rattle.numbers.specs.Numbers.{number_at}
+use Rattle.numbers.specs.Numbers.Number.{Value, Fault}
 use Rattle.numbers.specs.Format.{Format, ended, item, many, got, reading}
 use Rattle.numbers.proofs.Parts.{many_none, many_more, many_length, reading_ended}
 use Rattle.patternfile.proofs.Filling.{First, item_first, item_fault}

@@ -1,52 +1,43 @@
 -- The first pass over the count and the pairs: each way out of it is what reading them gives.
 use Prim.Native.Nat.{ℕ, ◌*◌, ◌≤◌}
-use mathlib.Core.List.{List}
-use mathlib.Core.Path.{◌≡◌, sym, ap, ◌∙◌}
-use Rattle.verdict.specs.declared.Verdict.{Verdict}
-use Rattle.verdict.specs.declared.Verdict.TheVariants.{Fine, Against}
+use mathlib.Core.List.{List, [], ◌∷◌}
+use mathlib.Core.Path.{◌≡◌, sym}
+use Rattle.verdict.specs.Verdict.Verdict.{Fine, Against}
 use Rattle.sets.specs.Rooms.{max_room}
 use Rattle.pattern.specs.Tests.{set_test}
-use Rattle.numbers.specs.declared.Number.{Number}
-use Rattle.numbers.specs.declared.Number.TheVariants.{Value, Fault}
 use Rattle.numbers.specs.Numbers.{number_at}
-use Rattle.numbers.specs.Format.{Format, ended, gate, many, held_to, unless_refused, before, reading}
+use Rattle.numbers.specs.Numbers.Number.{Value, Fault}
+use Rattle.numbers.specs.Format.{Format, ended, item, gate, many, got, refused, held_to, reading}
 use Rattle.numbers.proofs.Formats.{held}
-use Rattle.numbers.proofs.Steps.{item_taken, item_stopped}
-use Rattle.patternfile.specs.Parts.{passed}
-use Rattle.patternfile.proofs.Judging.{passed_got, passed_refused}
+use Rattle.numbers.proofs.Steps.{Reached, reached_first, reached_item, reached_gate, reached_many, reached_end, stopped_item, stopped_gate, stopped_many}
 use Rattle.evidencefile.specs.EvidenceFile.{count_test, pair_room_test, pairs_format}
-use Rattle.evidencefile.specs.Parts.{counted}
 use Rattle.evidencefile.proofs.Contents.{count_fine}
 
-module _ (n lefts rights : ℕ) (s : List ℕ) (at : ℕ) {x : Number} (e : x ≡ held_to count_test at (number_at s at)) where
+module _ (n lefts rights : ℕ) (s : List ℕ) (at : ℕ) where
   abbrev pairs : ℕ → Format
   pairs m = many (2 * m) (set_test n) ended
 
-  abbrev rest : ℕ → Format
-  rest m = gate (pair_room_test lefts rights m) (pairs m)
-
-  pub no_count : {w p : ℕ} → x ≡ Fault w p → x ≡ counted (reading (pairs_format n lefts rights) s at)
+  to_count : Reached (pairs_format n lefts rights) s at [] (item count_test (λ m. gate (pair_room_test lefts rights m) (pairs m))) at
   unfolding pairs_format
-  no_count q = q ∙ ap counted (sym (item_stopped count_test rest s at (sym e ∙ q)))
+  to_count = reached_first (pairs_format n lefts rights) s at
 
-  module _ {m next : ℕ} (q : x ≡ Value m next) where
+  pub no_count : {w p : ℕ} → Fault w p ≡ held_to count_test at (number_at s at) → reading (pairs_format n lefts rights) s at ≡ refused w p
+  no_count e = stopped_item to_count e
+
+  module _ {m next : ℕ} (e : Value m next ≡ held_to count_test at (number_at s at)) where
     pub few_pairs : m ≤ max_room
-    few_pairs = (count_fine m).0 (held count_test at (number_at s at) (sym e ∙ q)).range
-
-    judged : {v : Verdict} → v ≡ pair_room_test lefts rights m → reading (pairs_format n lefts rights) s at ≡ before m (unless_refused v next (reading (pairs m) s next))
-    unfolding pairs_format reading
-    judged t = item_taken count_test rest s at (sym e ∙ q) ∙ ap (λ (u : Verdict). before m (unless_refused u next (reading (pairs m) s next))) (sym t)
+    few_pairs = (count_fine m).0 (held count_test at (number_at s at) (sym e)).range
 
     -- NO-ROOM
-    pub no_room : {v : Verdict} {w : ℕ} → v ≡ pair_room_test lefts rights m → v ≡ Against w → Fault w next ≡ counted (reading (pairs_format n lefts rights) s at)
-    no_room t h = sym (ap counted (judged t ∙ ap (λ (u : Verdict). before m (unless_refused u next (reading (pairs m) s next))) h))
+    pub no_room : {w : ℕ} → pair_room_test lefts rights m ≡ Against w → reading (pairs_format n lefts rights) s at ≡ refused w next
+    no_room h = stopped_gate (reached_item to_count e) h
 
-    module _ {v : Verdict} (t : v ≡ pair_room_test lefts rights m) (h : v ≡ Fine) {d : Number} (p : d ≡ passed (2 * m) (reading (pairs m) s next)) where
-      roomy : reading (pairs_format n lefts rights) s at ≡ before m (reading (pairs m) s next)
-      roomy = judged t ∙ ap (λ (u : Verdict). before m (unless_refused u next (reading (pairs m) s next))) h
+    module _ (h : pair_room_test lefts rights m ≡ Fine) where
+      to_pairs : Reached (pairs_format n lefts rights) s at (m ∷ []) (pairs m) next
+      to_pairs = reached_gate (reached_item to_count e) h
 
-      pub bad_pair : {w o : ℕ} → d ≡ Fault w o → d ≡ counted (reading (pairs_format n lefts rights) s at)
-      bad_pair f = f ∙ sym (ap counted (roomy ∙ ap (before m) (passed_refused (2 * m) (reading (pairs m) s next) p f)))
+      pub bad_pair : {w p : ℕ} → reading (pairs m) s next ≡ refused w p → reading (pairs_format n lefts rights) s at ≡ refused w p
+      bad_pair q = stopped_many (2 * m) (set_test n) ended to_pairs q
 
-      pub all_pairs : {c last : ℕ} → d ≡ Value c last → Value m last ≡ counted (reading (pairs_format n lefts rights) s at)
-      all_pairs f = sym (ap counted (roomy ∙ ap (before m) (passed_got (2 * m) (reading (pairs m) s next) p f)))
+      pub all_pairs : {us : List ℕ} {end : ℕ} → reading (pairs m) s next ≡ got us end → reading (pairs_format n lefts rights) s at ≡ got (m ∷ us) end
+      all_pairs q = reached_end (reached_many (2 * m) (set_test n) ended to_pairs q)

@@ -2,20 +2,23 @@
 use Prim.Native.Nat.{ℕ, ◌+◌, ◌*◌, ◌^◌, ◌<◌, ◌≤◌}
 use mathlib.Core.List.{List, ◌∷◌, ◌++◌, append-nil}
 use mathlib.Core.Logic.{◌↔◌, ◌⊎◌, inl, inr}
-use mathlib.Core.Path.{◌≡◌, refl, sym, ap, ap₂, ◌∙◌, subst}
+use mathlib.Core.Path.{◌≡◌, refl, sym, ap, ap₂, ◌∙◌}
 use native.Mathlib.Decide.{dec_le, dec_lt}
 use native.Mathlib.Omega.{arith}
 use lib.Dec.{leb}
 use lib.ListN.{length, take, drop}
 use lib.Seq.{take_at}
 use borrow.Author.Tests.{leb-false}
-use Rattle.verdict.specs.declared.Verdict.TheVariants.{Against}
+use Rattle.std.specs.Prelude.{Result, Ok, Err}
+use Rattle.verdict.specs.declared.Fault.{Fault as FaultAt}
+use Rattle.verdict.specs.Verdict.Verdict.{Against}
+use Rattle.verdict.specs.Refusals.{number}
 use Rattle.verdict.proofs.Ordered.{apart, need_against}
 use Rattle.sets.specs.Rooms.{max_room}
 use Rattle.pattern.specs.Pattern.{Pattern}
 use Rattle.pattern.specs.Tests.{set_test}
-use Rattle.numbers.specs.declared.Number.TheVariants.{Value, Fault}
 use Rattle.numbers.specs.Numbers.{encode, number_at, AreBytes}
+use Rattle.numbers.specs.Numbers.Number.{Value, Fault}
 use Rattle.numbers.specs.Format.{Format, ended, item, gate, many, Reading, got, refused, reading, file_reading, encode_all}
 use Rattle.numbers.specs.Faults.{Padded, TooBig, After, here, taken, through, StoppedBy, by_form, by_range, by_gate, Stops}
 use Rattle.numbers.proofs.RoundTrip.{read_after_write}
@@ -30,10 +33,9 @@ use Rattle.patternfile.specs.Parts.{PartOf}
 use Rattle.patternfile.proofs.Contents.{NumbersOf, fits_numbers, part_then, part_stopped}
 use Rattle.patternfile.proofs.Places as PatternPlaces
 use Rattle.patternfile.proofs.Places.{set_against, refused_there}
-use Rattle.evidencefile.specs.declared.EvidenceRead.{EvidenceRead}
-use Rattle.evidencefile.specs.declared.EvidenceRead.TheVariants.{Done, Refused}
+use Rattle.evidencefile.specs.declared.EvidenceNumbers.{EvidenceNumbers}
 use Rattle.evidencefile.specs.EvidenceFile.{Rooms, Lists, rooms_of, count_test, pair_room_test, pairs_format, evidence_format}
-use Rattle.evidencefile.specs.Reader.{Reads}
+use Rattle.evidencefile.specs.Reader.{Reads, number_of, values_of, IsRefused}
 use Rattle.evidencefile.specs.Refusals.{RefusedAt, in_pattern, bad_list, no_room, bad_set, cut, padded, too_big, tail}
 use Rattle.evidencefile.proofs.Contents.{pair_room_fine, OfferOf, fits_offer}
 
@@ -157,8 +159,8 @@ module _ (s : List ℕ) (rooms : Rooms) (are : AreBytes s) where
             at_end (PatternFile.numbers_of P x y ++ vs) last (on ∙ ap (before_all (PatternFile.numbers_of P x y)) q) (dec_lt last (length s))
 
 -- THE PLACE OF EACH REFUSAL is what the scope says; the numbers before it are right, by the law `first_fault`
-pub refusal_place : {s : List ℕ} {old new : Lists} {w place : ℕ} → AreBytes s → Reads s old (Refused w place) new → RefusedAt (rooms_of old) s w place
-refusal_place {s} {old} are r = in_file s (rooms_of old) are r.fault (reading (pattern_format (length old.rows)) s 0) refl
+pub refusal_place : {s : List ℕ} {old new : Lists} (f : FaultAt) → AreBytes s → Reads s old (Err f) new → RefusedAt (rooms_of old) s (number f.why) f.place
+refusal_place {s} {old} f are r = in_file s (rooms_of old) are r.fault (reading (pattern_format (length old.rows)) s 0) refl
 
 -- by two of the numbers a host knows how the number there is badly written
 pub padded_there : {rooms : Rooms} {s : List ℕ} {w place : ℕ} → RefusedAt rooms s w place → w ≡ 21 → Padded 0 (drop place s)
@@ -182,13 +184,13 @@ too_big_there (padded h) e = absurd (omega arith)
 too_big_there (tail o l f) e = absurd (omega arith)
 
 -- and it is refused so exactly where reading stops there
-pub refusal_exactly : (s : List ℕ) (old : Lists) (r : EvidenceRead) (new : Lists) {w place : ℕ} → AreBytes s → Reads s old r new
-    → (r ≡ Refused w place) ↔ Stops (evidence_format (rooms_of old)) s 0 w place
-refusal_exactly s old r new {w} {place} are h = (
-  λ q. (first_fault (evidence_format (rooms_of old)) s w place are).0 (subst (λ (z : EvidenceRead). Reads s old z new) q h).fault,
-  λ t. there r h ((first_fault (evidence_format (rooms_of old)) s w place are).1 t),
+pub refusal_exactly : (s : List ℕ) (old : Lists) (r : Result EvidenceNumbers FaultAt) (new : Lists) {w place : ℕ} → AreBytes s → Reads s old r new
+    → (IsRefused r × (number_of r ≡ w) × ((values_of r).place ≡ place)) ↔ Stops (evidence_format (rooms_of old)) s 0 w place
+refusal_exactly s old (Ok f) new {w} {place} are h = (
+  λ q. absurd q.0,
+  λ t. absurd (refused_got (sym ((first_fault (evidence_format (rooms_of old)) s w place are).1 t) ∙ h.file.read)),
 )
-  where
-    there : (r : EvidenceRead) → Reads s old r new → file_reading (evidence_format (rooms_of old)) s ≡ refused w place → r ≡ Refused w place
-    there (Done n k f x y m) h e = absurd (refused_got (sym e ∙ h.file.read))
-    there (Refused w' place') h e = let (i, j) = refused_is (sym h.fault ∙ e) in rw (i, j) refl
+refusal_exactly s old (Err f) new {w} {place} are h = (
+  λ q. (first_fault (evidence_format (rooms_of old)) s w place are).0 (h.fault ∙ rw (q.1, q.2) refl),
+  λ t. let (e, p) = refused_is (sym h.fault ∙ (first_fault (evidence_format (rooms_of old)) s w place are).1 t) in (tt, e, p),
+)

@@ -1,137 +1,109 @@
 -- The whole reader: the first pass over the pattern's numbers and over the pairs, and what the second pass then leaves.
 use Prim.Native.Nat.{ℕ, ◌+◌, ◌*◌, ◌<◌, ◌≤◌}
-use mathlib.Core.List.{List, [], ◌∷◌, ◌++◌}
-use mathlib.Core.Path.{◌≡◌, refl, sym, ap, ap₂, ◌∙◌, subst}
+use mathlib.Core.List.{List, ◌∷◌, ◌++◌}
+use mathlib.Core.Path.{◌≡◌, refl, sym, ap, ap₂, ◌∙◌}
 use native.Mathlib.Omega.{arith}
 use lib.ListN.{length}
+use Rattle.std.specs.Prelude.{Ok}
 use Rattle.lent.specs.Lent.{lay}
-use Rattle.pattern.specs.Pattern.{Sized, pattern_of}
 use Rattle.pattern.specs.Tests.{set_test}
-use Rattle.numbers.specs.declared.Number.{Number}
-use Rattle.numbers.specs.declared.Number.TheVariants.{Value, Fault}
+use Rattle.numbers.specs.declared.Placed.{Placed}
 use Rattle.numbers.specs.Numbers.{encode, AreBytes}
-use Rattle.numbers.specs.Format.{Reading, got, refused, reading, file_reading, encode_all, Fits}
-use Rattle.numbers.proofs.RoundTrip.{fault_value}
-use Rattle.numbers.proofs.Formats.{write_after_reading, file_write_after_read}
+use Rattle.numbers.specs.Format.{Reading, got, refused, reading, file_reading, encode_all}
+use Rattle.numbers.proofs.Formats.{file_write_after_read}
 use Rattle.numbers.proofs.Parts.{before_all}
 use Rattle.numbers.proofs.Steps.{file_stopped, file_tail, file_whole}
 use Rattle.patternfile.specs.declared.PatternPart.{PatternPart}
-use Rattle.patternfile.specs.declared.PatternPart.TheVariants.{Whole, Stopped}
 use Rattle.patternfile.specs.PatternFile as PatternFile
-use Rattle.patternfile.specs.Parts.{PartOf, Judges, Filled}
+use Rattle.patternfile.specs.PatternFile.{pattern_format}
+use Rattle.patternfile.specs.Reader.{with_rows}
+use Rattle.patternfile.specs.Parts.{Judges, Filled}
 use Rattle.patternfile.proofs.Contents.{part_valid, rows_stand, part_then, part_stopped}
-use Rattle.evidence.specs.Evidence.{offer_of}
-use Rattle.evidencefile.specs.declared.EvidenceRead.TheVariants.{Done, Refused}
+use Rattle.evidencefile.specs.declared.EvidenceNumbers.{EvidenceNumbers}
 use Rattle.evidencefile.specs.EvidenceFile.{Lists, lists_of, rooms_of, numbers_of, pairs_format, evidence_format}
-use Rattle.evidencefile.specs.Reader.{Reads}
-use Rattle.evidencefile.specs.Parts.{counted, FilledPairs}
+use Rattle.evidencefile.specs.Reader.{ReadDone, ReadRefused, with_lists}
+use Rattle.evidencefile.specs.Parts.{Counts, FilledPairs}
 use Rattle.evidencefile.proofs.Sides.{Parted, parted}
 use Rattle.evidencefile.proofs.Contents.{Behind, read_behind}
 
--- ---- what the first pass over the pairs comes to
-
-counted_got : (r : Reading) {m last : ℕ} → counted r ≡ Value m last → (us : List ℕ) × (r ≡ got (m ∷ us) last)
-counted_got (got [] next) h = absurd (fault_value h)
-counted_got (got (u ∷ us) next) {m} {last} h = let x : u ≡ m = cc in let y : next ≡ last = cc in (us, rw (x, y) refl)
-counted_got (refused w place) h = absurd (fault_value h)
-
-fault_is : {w p w' p' : ℕ} → Fault w p ≡ Fault w' p' → (w ≡ w') × (p ≡ p')
-fault_is h = (cc, cc)
-
--- ---- the whole reader
-
-module _ (s : List ℕ) (old : Lists) (are : AreBytes s) {r : PatternPart} (j : Judges s (length old.rows) r) where
-  pub reads_stopped : {w place : ℕ} → r ≡ Stopped w place → Reads s old (Refused w place) old
+module _ (s : List ℕ) (old : Lists) where
+  pub reads_stopped : {w place : ℕ} → reading (pattern_format (length old.rows)) s 0 ≡ refused w place → ReadRefused s old w place old
   unfolding evidence_format
   reads_stopped q =
-      let stopped = part_stopped (length old.rows) (λ n. pairs_format n (length old.lefts) (length old.rights)) s (subst (Judges s (length old.rows)) q j) in
+      let stopped = part_stopped (length old.rows) (λ n. pairs_format n (length old.lefts) (length old.rights)) s q in
       record { fault = file_stopped (evidence_format (rooms_of old)) s stopped; unchanged = refl }
 
-  module _ {n k finals x y end : ℕ} (q : r ≡ Whole n k finals x y end) where
-    found : (rows : List ℕ) × PartOf (length old.rows) s (pattern_of n k finals rows) x y end
-    found = subst (Judges s (length old.rows)) q j
-
+  module _ (part : PatternPart) (found : Judges s (length old.rows) (Ok part)) where
     abbrev behind : Reading
-    behind = reading (pairs_format n (length old.lefts) (length old.rights)) s end
+    behind = reading (pairs_format part.numbers.states (length old.lefts) (length old.rights)) s part.end
 
     abbrev head : List ℕ
-    head = PatternFile.numbers_of (pattern_of n k finals found.0) x y
+    head = PatternFile.numbers_of (with_rows part.numbers found.0) part.numbers.x part.numbers.y
 
     goes_on : reading (evidence_format (rooms_of old)) s 0 ≡ before_all head behind
     unfolding evidence_format
     goes_on = (part_then (length old.rows) (λ n. pairs_format n (length old.lefts) (length old.rights)) s found.1).same
 
-    some_count : {next : ℕ} → behind ≡ got [] next → ⊥
-    unfolding pairs_format Fits
-    some_count {next} c = (write_after_reading (pairs_format n (length old.lefts) (length old.rights)) s end [] next are c).fits
+    pub reads_fault : {w place : ℕ} → behind ≡ refused w place → ReadRefused s old w place old
+    reads_fault q = record { fault = file_stopped (evidence_format (rooms_of old)) s (goes_on ∙ ap (before_all head) q); unchanged = refl }
 
-    module _ {p : Number} (e : p ≡ counted behind) where
-      pub reads_fault : {w place : ℕ} → p ≡ Fault w place → Reads s old (Refused w place) old
-      reads_fault {w} {place} h =
-          record { fault = file_stopped (evidence_format (rooms_of old)) s (goes_on ∙ ap (before_all head) (stopped behind refl (sym e ∙ h))); unchanged = refl }
-        where
-          stopped : (b : Reading) → behind ≡ b → counted b ≡ Fault w place → behind ≡ refused w place
-          stopped (refused u o) c h = let (a, b) = fault_is h in c ∙ rw (a, b) refl
-          stopped (got (u ∷ us) next) c h = absurd (fault_value (sym h))
-          stopped (got [] next) c h = absurd (some_count c)
+    module _ (count : Placed) (listed : Counts behind (Ok count)) where
+      all_read : reading (evidence_format (rooms_of old)) s 0 ≡ got (head ++ (count.value ∷ listed.0)) count.next
+      all_read = goes_on ∙ ap (before_all head) listed.1
 
-      module _ {m last : ℕ} (v : p ≡ Value m last) where
-        us : List ℕ
-        us = (counted_got behind (sym e ∙ v)).0
+      pub reads_tail : count.next < length s → ReadRefused s old 22 count.next old
+      reads_tail h = record { fault = file_tail (evidence_format (rooms_of old)) s all_read h; unchanged = refl }
 
-        read_on : behind ≡ got (m ∷ us) last
-        unfolding us
-        read_on = (counted_got behind (sym e ∙ v)).1
-
-        pairs_behind : Behind (length old.lefts) (length old.rights) s end m us last n
-        pairs_behind = read_behind n (length old.lefts) (length old.rights) s end m us last are read_on
-
-        all_read : reading (evidence_format (rooms_of old)) s 0 ≡ got (head ++ (m ∷ us)) last
-        all_read = goes_on ∙ ap (before_all head) read_on
-
-        pub reads_tail : last < length s → Reads s old (Refused 22 last) old
-        reads_tail h = record { fault = file_tail (evidence_format (rooms_of old)) s all_read h; unchanged = refl }
+      module _ (are : AreBytes s) where
+        pairs_behind : Behind (length old.lefts) (length old.rights) s part.end count.value listed.0 count.next part.numbers.states
+        pairs_behind = read_behind part.numbers.states (length old.lefts) (length old.rights) s part.end count.value listed.0 count.next are listed.1
 
         -- what the second pass needs
-        pub reads_sized : Sized n k
-        reads_sized = (part_valid are found.1).valid.sized
-
-        pub reads_rows : n * k ≤ length old.rows
+        pub reads_rows : part.numbers.states * part.numbers.letters ≤ length old.rows
         reads_rows = (part_valid are found.1).enough
 
-        pub reads_lefts : m ≤ length old.lefts
+        pub reads_lefts : count.value ≤ length old.lefts
         reads_lefts = pairs_behind.in_lefts
 
-        pub reads_rights : m ≤ length old.rights
+        pub reads_rights : count.value ≤ length old.rights
         reads_rights = pairs_behind.in_rights
 
-        pub reads_placed : length s ≤ last → end + length (encode m) ≤ length s
-        reads_placed h =
-            let w = file_whole (evidence_format (rooms_of old)) s all_read h in
-            omega (arith, pairs_behind.placed, (file_write_after_read (evidence_format (rooms_of old)) s (head ++ (m ∷ us)) last are w).takes_all)
+        sides : Parted count.value listed.0
+        sides = parted count.value listed.0 pairs_behind.count
 
-        sides : Parted m us
-        sides = parted m us pairs_behind.count
+        module _ (h : length s ≤ count.next) where
+          takes_all : count.next ≡ length s
+          takes_all =
+              let w = file_whole (evidence_format (rooms_of old)) s all_read h in
+              (file_write_after_read (evidence_format (rooms_of old)) s (head ++ (count.value ∷ listed.0)) count.next are w).takes_all
 
-        whole : length s ≤ last → file_reading (evidence_format (rooms_of old)) s ≡ got (numbers_of (offer_of n k finals found.0 x y sides.lefts sides.rights)) (length s)
-        whole h =
-            let w = file_whole (evidence_format (rooms_of old)) s all_read h in
-            let ends = (file_write_after_read (evidence_format (rooms_of old)) s (head ++ (m ∷ us)) last are w).takes_all in
-            w ∙ ap (got (head ++ (m ∷ us))) ends ∙ ap₂ (λ (c : ℕ) (t : List ℕ). got (head ++ (c ∷ t)) (length s)) (sym sides.lefts_are) sides.all
+          pub reads_placed : part.end + length (encode count.value) ≤ length s
+          reads_placed = omega (arith, pairs_behind.placed, takes_all)
 
-        pub reads_done : {rows lefts rights : List ℕ} {at_rows at_pairs count pairs : ℕ} → at_rows ≡ 2 + length (encode finals) → at_pairs ≡ end + length (encode m) → count ≡ n * k
-            → pairs ≡ m → length s ≤ last → Filled s at_rows count old.rows rows → FilledPairs s at_pairs pairs old.lefts old.rights lefts rights
-            → Reads s old (Done n k finals x y pairs) (lists_of rows lefts rights)
-        reads_done {rows} {lefts} {rights} a b c d h f g =
-            let laid : rows ≡ lay found.0 old.rows =
-            f.filled (set_test n) found.0 (2 + length (encode finals) + length (encode_all found.0)) (rw (a, c) (rows_stand are found.1)) in
-            let (l, r) =
-            g.filled (set_test n) sides.lefts sides.rights last (sides.lefts_are ∙ sym sides.rights_are) (rw (b, d) (pairs_behind.stand ∙ ap (λ (t : List ℕ). got t last) sides.all)) in
-            record {
-              rows = found.0;
-              lefts = sides.lefts;
-              rights = sides.rights;
-              file = record { tabled = found.1.tabled; paired = sides.lefts_are ∙ sym sides.rights_are; read = whole h };
-              counted = d ∙ sym sides.lefts_are;
-              written = rw (laid, l, r) refl;
-            }
+          abbrev found_all : EvidenceNumbers
+          found_all = record { pattern = part.numbers; pairs = count.value }
+
+          whole : file_reading (evidence_format (rooms_of old)) s ≡ got (numbers_of (with_lists found_all found.0 sides.lefts sides.rights)) (length s)
+          whole =
+              file_whole (evidence_format (rooms_of old)) s all_read h
+              ∙ ap (got (head ++ (count.value ∷ listed.0))) takes_all
+              ∙ ap₂ (λ (c : ℕ) (t : List ℕ). got (head ++ (c ∷ t)) (length s)) (sym sides.lefts_are) sides.all
+
+          pub reads_done : {rows lefts rights : List ℕ} {at_rows at_pairs : ℕ} → at_rows ≡ 2 + length (encode part.numbers.finals) → at_pairs ≡ part.end + length (encode count.value)
+              → Filled s at_rows (part.numbers.states * part.numbers.letters) old.rows rows → FilledPairs s at_pairs count.value old.lefts old.rights lefts rights
+              → ReadDone s old found_all (lists_of rows lefts rights)
+          reads_done {rows} {lefts} {rights} a b f g =
+              let n = part.numbers.states in
+              let laid : rows ≡ lay found.0 old.rows =
+              f.filled (set_test n) found.0 (2 + length (encode part.numbers.finals) + length (encode_all found.0)) (rw a (rows_stand are found.1)) in
+              let (l, r) =
+              g.filled (set_test n) sides.lefts sides.rights count.next (sides.lefts_are ∙ sym sides.rights_are)
+              (rw b (pairs_behind.stand ∙ ap (λ (t : List ℕ). got t count.next) sides.all)) in
+              record {
+                rows = found.0;
+                lefts = sides.lefts;
+                rights = sides.rights;
+                file = record { tabled = found.1.tabled; paired = sides.lefts_are ∙ sym sides.rights_are; read = whole };
+                counted = sym sides.lefts_are;
+                written = rw (laid, l, r) refl;
+              }

@@ -4,18 +4,18 @@ use mathlib.Core.List.{List}
 use mathlib.Core.Path.{◌≡◌, refl, sym, ap, ◌∙◌, subst}
 use native.Mathlib.Omega.{arith}
 use lib.ListN.{length, take}
+use Rattle.std.specs.Prelude.{Result, Ok}
+use Rattle.verdict.specs.declared.Refusal.{Refusal}
+use Rattle.verdict.specs.declared.Fault.{Fault}
 use Rattle.lent.specs.Lent.{lay}
 use Rattle.lent.proofs.Laying.{take_lay, lay_at_start}
 use Rattle.lent.proofs.Putting.{put_ending}
 use Rattle.numbers.specs.Numbers.{AreBytes}
 use Rattle.numbers.proofs.Formats.{file_read_after_write}
-use Rattle.patternfile.specs.declared.Written.{Written}
-use Rattle.patternfile.specs.declared.Written.TheVariants as Write
-use Rattle.evidence.specs.Evidence.{Offer, offer_of, ValidOffer}
-use Rattle.evidencefile.specs.declared.EvidenceRead.{EvidenceRead}
-use Rattle.evidencefile.specs.declared.EvidenceRead.TheVariants as Read
+use Rattle.evidence.specs.Evidence.{Offer, ValidOffer}
+use Rattle.evidencefile.specs.declared.EvidenceNumbers.{EvidenceNumbers}
 use Rattle.evidencefile.specs.EvidenceFile.{Rooms, Lists, rooms_of, lay_offer, numbers_of, file_bytes, evidence_format}
-use Rattle.evidencefile.specs.Reader.{FileOf, ReadDone, Reads}
+use Rattle.evidencefile.specs.Reader.{with_lists, found_of, FileOf, ReadDone, Reads}
 use Rattle.evidencefile.specs.Writer.{Allowed, WriteDone, Writes}
 use Rattle.evidencefile.proofs.Contents.{Accepted, accepted_fits, file_bytes_lem, accepted_valid}
 use Rattle.evidencefile.proofs.Refusals.{write_fine}
@@ -42,31 +42,33 @@ pub accepted : {rooms : Rooms} {o : Offer} → ValidOffer o → RoomFor o rooms 
 accepted v r = record { valid = v; rows_fit = r.rows; lefts_fit = r.lefts; rights_fit = r.rights }
 
 -- READ AFTER WRITE: what was written reads as the same values, rows and sides, and all its bytes are taken
-pub read_after_write : (o : Offer) (out : List ℕ) (count : ℕ) (out' : List ℕ) → Writes o out (Write.Done count) out'
-    → (old : Lists) (r : EvidenceRead) (new : Lists) → RoomFor o (rooms_of old) → Reads (take count out') old r new
-    → (r ≡ Read.Done o.pattern.states o.pattern.letters o.pattern.finals o.x o.y (length o.lefts)) × (new ≡ lay_offer o old)
+pub read_after_write : (o : Offer) (out : List ℕ) (count : ℕ) (out' : List ℕ) → Writes o out (Ok count) out'
+    → (old : Lists) (r : Result EvidenceNumbers Fault) (new : Lists) → RoomFor o (rooms_of old) → Reads (take count out') old r new
+    → (r ≡ Ok (found_of o)) × (new ≡ lay_offer o old)
 read_after_write o out count out' w old r new room q =
     let a : Allowed o (length out) = (write_fine o (length out)).0 w.allowed in
     let bytes : take count out' ≡ file_bytes o = put_ending w.written in
     let f : FileOf (rooms_of old) (take count out') o = subst (λ (s : List ℕ). FileOf (rooms_of old) s o) (sym bytes) (file_of (rooms_of old) o (accepted a.valid room)) in
-    reader_determined (take count out') old r (Read.Done o.pattern.states o.pattern.letters o.pattern.finals o.x o.y (length o.lefts)) new (lay_offer o old) q
+    reader_determined (take count out') old r (Ok (found_of o)) new (lay_offer o old) q
     (record { rows = o.pattern.rows; lefts = o.lefts; rights = o.rights; file = f; counted = refl; written = refl })
 
 -- ---- what the reader left
 
 -- the offer that was read
-abbrev pub offer_in : ℕ → ℕ → ℕ → ℕ → ℕ → ℕ → Lists → Offer
-offer_in n k f x y m new = offer_of n k f (take (n * k) new.rows) x y (take m new.lefts) (take m new.rights)
+abbrev pub offer_read : EvidenceNumbers → Lists → Offer
+offer_read f new = with_lists f (take (f.pattern.states * f.pattern.letters) new.rows) (take f.pairs new.lefts) (take f.pairs new.rights)
 
-pub left_offer : {s : List ℕ} {old : Lists} {n k f x y m : ℕ} {new : Lists} → (d : ReadDone s old n k f x y m new) → offer_in n k f x y m new ≡ offer_of n k f d.rows x y d.lefts d.rights
-left_offer {old = old} {n} {k} {f} {x} {y} {m} {new} d =
-    let rows : take (n * k) new.rows ≡ d.rows = ap (λ (l : Lists). take (n * k) l.rows) d.written ∙ take_lay d.rows old.rows (n * k) d.file.tabled in
+pub left_offer : {s : List ℕ} {old : Lists} {f : EvidenceNumbers} {new : Lists} → (d : ReadDone s old f new) → offer_read f new ≡ with_lists f d.rows d.lefts d.rights
+left_offer {old = old} {f} {new} d =
+    let count = f.pattern.states * f.pattern.letters in
+    let m = f.pairs in
+    let rows : take count new.rows ≡ d.rows = ap (λ (l : Lists). take count l.rows) d.written ∙ take_lay d.rows old.rows count d.file.tabled in
     let lefts : take m new.lefts ≡ d.lefts = ap (λ (l : Lists). take m l.lefts) d.written ∙ take_lay d.lefts old.lefts m (sym d.counted) in
     let rights : take m new.rights ≡ d.rights = ap (λ (l : Lists). take m l.rights) d.written ∙ take_lay d.rights old.rights m (sym d.file.paired ∙ sym d.counted) in
     rw (rows, lefts, rights) refl
 
 -- WHAT THE READER ACCEPTS is a valid offer
-pub read_valid : {s : List ℕ} {old : Lists} {n k f x y m : ℕ} {new : Lists} → AreBytes s → Reads s old (Read.Done n k f x y m) new → ValidOffer (offer_in n k f x y m new)
+pub read_valid : {s : List ℕ} {old : Lists} {f : EvidenceNumbers} {new : Lists} → AreBytes s → Reads s old (Ok f) new → ValidOffer (offer_read f new)
 read_valid are d = subst ValidOffer (sym (left_offer d)) (accepted_valid are d.file).valid
 
 -- an accepted file is what the writer writes of it
@@ -79,9 +81,9 @@ writes_back {rooms} {s} {o} are f out l =
     }
 
 -- WRITE AFTER READ: what was read is written back byte for byte
-pub write_after_read : (s : List ℕ) (old : Lists) (n k f x y m : ℕ) (new : Lists) → AreBytes s → Reads s old (Read.Done n k f x y m) new
-    → (out : List ℕ) (r : Written) (out' : List ℕ) → length s ≤ length out → Writes (offer_in n k f x y m new) out r out'
-    → (r ≡ Write.Done (length s)) × (out' ≡ lay s out)
-write_after_read s old n k f x y m new are d out r out' l q =
-    writer_determined (offer_of n k f d.rows x y d.lefts d.rights) out r (Write.Done (length s)) out' (lay s out)
+pub write_after_read : (s : List ℕ) (old : Lists) (f : EvidenceNumbers) (new : Lists) → AreBytes s → Reads s old (Ok f) new
+    → (out : List ℕ) (r : Result ℕ Refusal) (out' : List ℕ) → length s ≤ length out → Writes (offer_read f new) out r out'
+    → (r ≡ Ok (length s)) × (out' ≡ lay s out)
+write_after_read s old f new are d out r out' l q =
+    writer_determined (with_lists f d.rows d.lefts d.rights) out r (Ok (length s)) out' (lay s out)
     (subst (λ (o : Offer). Writes o out r out') (left_offer d) q) (writes_back are d.file out l)

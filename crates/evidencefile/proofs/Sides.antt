@@ -1,11 +1,10 @@
 -- The two sides of a list of pairs as they alternate in a file: their numbers and bytes, and the sides found again.
-use Prim.Native.Nat.{ℕ, zero, suc, ◌+◌, ◌*◌, ◌<◌, ◌≤◌}
+use Prim.Native.Nat.{ℕ, zero, suc, ◌+◌, ◌*◌}
 use mathlib.Core.List.{List, [], ◌∷◌, ◌++◌}
 use mathlib.Core.Path.{◌≡◌, refl, sym, ap, ◌∙◌}
-use native.Mathlib.Numerals.{add-one}
 use native.Mathlib.Omega.{arith}
-use lib.ListN.{length, drop, get_or, length-append, drop_of_length-le}
-use lib.Seq.{drop-cons}
+use lib.ListN.{length, length-append}
+use Rattle.lent.proofs.Filling.{Splits}
 use Rattle.numbers.specs.Numbers.{encode}
 use Rattle.numbers.specs.Format.{encode_all}
 use Rattle.evidencefile.specs.EvidenceFile.{alternating}
@@ -94,12 +93,14 @@ sides_size (l ∷ ls) (r ∷ rs) e =
       length-append (encode r) (encode_all rs),
     )
 
--- what is left of the pairs is the next one and what is left then
-pub pairs_step : (ls rs : List ℕ) (i : ℕ) → i < length ls → length ls ≡ length rs
-    → encode_all (alternating (drop i ls) (drop i rs)) ≡ encode (get_or ls i 0) ++ (encode (get_or rs i 0) ++ encode_all (alternating (drop (i + 1) ls) (drop (i + 1) rs)))
+-- what is still to come of the pairs is the next one, left and right, and what comes then
+pub pair_first : {all_ls all_rs ls rs : List ℕ} (l r : ℕ) → all_ls ≡ l ∷ ls → all_rs ≡ r ∷ rs → Splits (encode_all (alternating all_ls all_rs)) (encode l) (encode r ++ encode_all (alternating ls rs))
 unfolding alternating encode_all
-pairs_step ls rs i h e = rw (drop-cons ls i 0 h, drop-cons rs i 0 (omega (arith, h, e)), add-one) refl
+pair_first l r e f = record { parts = rw (e, f) refl }
 
-pub pairs_none : (ls rs : List ℕ) (i : ℕ) → length ls ≤ i → encode_all (alternating (drop i ls) (drop i rs)) ≡ []
+pub right_then : (r : ℕ) (bytes : List ℕ) → Splits (encode r ++ bytes) (encode r) bytes
+right_then r bytes = record { parts = refl }
+
+pub pairs_none : {ls : List ℕ} (rs : List ℕ) → ls ≡ [] → encode_all (alternating ls rs) ≡ []
 unfolding alternating encode_all
-pairs_none ls rs i h = rw (drop_of_length-le ls h) refl
+pairs_none rs e = rw e refl

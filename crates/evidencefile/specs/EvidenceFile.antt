@@ -5,7 +5,7 @@
 --   pairs_format n l r       what stands behind the pattern's numbers, for sets of n states and side buffers of so many numbers
 --   evidence_format rooms    the evidence file: the pattern file's format, continued (`no_longer`, `one_as_long`)
 use Rattle.std.specs.Prelude.{ℕ, ◌*◌, ◌&&◌, List, [], ◌∷◌, ◌++◌, leb, length}
-use Rattle.verdict.specs.declared.Verdict.{Verdict}
+use Rattle.verdict.specs.Verdict.{Verdict}
 use Rattle.verdict.specs.Tests.{need}
 use Rattle.lent.specs.Lent.{lay}
 use Rattle.sets.specs.Rooms.{max_room}

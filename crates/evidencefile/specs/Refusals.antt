@@ -9,8 +9,8 @@ use Rattle.sets.specs.Sets.{Good}
 use Rattle.sets.specs.Rooms.{max_room}
 use Rattle.pattern.specs.Pattern.{Pattern}
 use Rattle.pattern.specs.Refusals.{MasksGood, shape_lines}
-use Rattle.numbers.specs.declared.Number.TheVariants.{Value}
 use Rattle.numbers.specs.Numbers.{number_at}
+use Rattle.numbers.specs.Numbers.Number.{Value}
 use Rattle.numbers.specs.Faults.{EndsEarly, Padded, TooBig}
 use Rattle.numbers.specs.Format.{refused, reading}
 use Rattle.patternfile.specs.PatternFile.{pattern_format}

@@ -3,14 +3,14 @@
 --   Allowed o room         what passes them all (`write_fine`)
 --   Writes o old r new     the writer's promise: the answer r, and the buffer `new` where it was `old`; nothing is left open (`writer_determined`),
 --                          and with the reader it goes round both ways (`read_after_write`, `write_after_read`)
-use Rattle.std.specs.Prelude.{ℕ, ◌≤◌, List, [], ◌∷◌, ◌≡◌, length}
-use Rattle.verdict.specs.declared.Verdict.{Verdict}
-use Rattle.verdict.specs.declared.Verdict.TheVariants.{Fine, Against}
+use Rattle.std.specs.Prelude.{ℕ, ◌≤◌, List, [], ◌∷◌, ◌≡◌, length, Result, Ok, Err}
+use Rattle.verdict.specs.declared.Refusal.{Refusal}
+use Rattle.verdict.specs.Verdict.{Verdict}
+use Rattle.verdict.specs.Verdict.Verdict.{Fine, Against}
 use Rattle.verdict.specs.Tests.{in_order}
+use Rattle.verdict.specs.Refusals.{number}
 use Rattle.lent.specs.Lent.{Put}
 use Rattle.pattern.specs.Tests.{space_test}
-use Rattle.patternfile.specs.declared.Written.{Written}
-use Rattle.patternfile.specs.declared.Written.TheVariants.{Done, Refused}
 use Rattle.evidence.specs.Evidence.{Offer, ValidOffer, check_test}
 use Rattle.evidencefile.specs.EvidenceFile.{file_bytes}
 
@@ -32,6 +32,6 @@ pub record WriteRefused (o : Offer) (old : List ℕ) (w : ℕ) (new : List ℕ) 
   pub against : write_test o (length old) ≡ Against w
   pub unchanged : new ≡ old
 
-abbrev pub Writes : Offer → List ℕ → Written → List ℕ → Type 0
-Writes o old (Done count) new = WriteDone o old count new
-Writes o old (Refused w) new = WriteRefused o old w new
+abbrev pub Writes : Offer → List ℕ → Result ℕ Refusal → List ℕ → Type 0
+Writes o old (Ok count) new = WriteDone o old count new
+Writes o old (Err why) new = WriteRefused o old (number why) new

@@ -8,25 +8,32 @@ use lib.ListN.{length, get_or, replicate}
 use lib.Bits.{bit_or, or_zero_l}
 use Rattle.expressions.specs.Positions.{when, first, last, linked, follow, named, finals_of, second, states}
 use Rattle.expressions.specs.Pieces.{Linked}
-use Rattle.expressions.specs.Both.{Whole, Filled}
+use Rattle.expressions.specs.Both.{Whole, finals_from, Filled}
 use Rattle.expressions.specs.Answers.{Built}
-use Rattle.expressions.specs.Both.{Blank, finals_from}
 use Rattle.expressions.specs.declared.Piece.{Piece}
-use Rattle.expressions.proofs.Tables.{next_both, named_both, filled_together}
+use Rattle.expressions.specs.declared.Tables.{Tables}
+use Rattle.expressions.proofs.Rows.{next_both, named_both, filled_together}
 use Rattle.expressions.proofs.Refusals.{fine, at_second, after_second, second_fine}
 
-pub zeros : (n s : ℕ) → ◌≡◌ {A = ℕ} (get_or {A = ℕ} (replicate n 0) s 0) 0
+zeros : (n s : ℕ) → ◌≡◌ {A = ℕ} (get_or {A = ℕ} (replicate n 0) s 0) 0
 zeros zero s = refl
 zeros (suc n) zero = refl
 zeros (suc n) (suc s) = zeros n s
 
-module _ {one two : List ℕ} {fs₀ fs₁ fs₂ fs₃ fs₄ ns₀ ns₁ ns₂ : List ℕ} (x y : Piece) {start : ℕ} (b : start ≡ 2 ^ x.used)
-    (k : Blank fs₀ ns₀) (w : Whole one 1 fs₀ fs₁ ns₀ ns₁ x) (v : Whole two (x.used + 1) fs₁ fs₂ ns₁ ns₂ y)
-    (l : Linked 1 x.first 64 fs₂ fs₃) (m : Linked start y.first 64 fs₃ fs₄) where
+-- tables that nothing has been put into
+pub record Blank (t : Tables) : Type 0 where
+  pub follow : (s : ℕ) → get_or t.follow s 0 ≡ 0
+  pub named : (a : ℕ) → get_or t.named a 0 ≡ 0
+
+pub blank : Blank (record { follow = replicate 64 0; named = replicate 32 0 })
+blank = record { follow = zeros 64; named = zeros 32 }
+
+module _ {one two : List ℕ} {t₀ t₁ t₂ t₃ t₄ : Tables} (x y : Piece) {start : ℕ} (b : start ≡ 2 ^ x.used)
+    (k : Blank t₀) (w : Whole one 1 t₀ t₁ x) (v : Whole two (x.used + 1) t₁ t₂ y) (l : Linked 1 x.first t₂ t₃) (m : Linked start y.first t₃ t₄) where
   start_is : start ≡ 2 ^ second w.tree
   start_is = b ∙ ap (λ (z : ℕ). 2 ^ z) (at_second w)
 
-  follows : (s : ℕ) → s < 64 → get_or fs₄ s 0 ≡ next_both w.tree v.tree s
+  follows : (s : ℕ) → s < 64 → get_or t₄.follow s 0 ≡ next_both w.tree v.tree s
   unfolding next_both
   follows s h =
       m.entry s h
@@ -39,10 +46,11 @@ module _ {one two : List ℕ} {fs₀ fs₁ fs₂ fs₃ fs₄ ns₀ ns₁ ns₂ :
       (ap (linked 1 s) w.first_is))
       (ap₂ (λ (a c : ℕ). linked a s c) start_is (v.first_is ∙ ap (first v.tree) (after_second w)))
 
-  names : (a : ℕ) → a < 32 → get_or ns₂ a 0 ≡ named_both w.tree v.tree a
+  names : (a : ℕ) → a < 32 → get_or t₄.named a 0 ≡ named_both w.tree v.tree a
   unfolding named_both
   names a h =
-      v.named_is a h
+      ap (λ (z : List ℕ). get_or z a 0) (m.names ∙ l.names)
+      ∙ v.named_is a h
       ∙ ap₂ bit_or (w.named_is a h ∙ ap (λ (z : ℕ). bit_or z (named w.tree 1 a)) (k.named a) ∙ or_zero_l _)
       (ap (λ (z : ℕ). named v.tree z a) (after_second w))
 
@@ -55,7 +63,7 @@ module _ {one two : List ℕ} {fs₀ fs₁ fs₂ fs₃ fs₄ ns₀ ns₁ ns₂ :
   count : y.used ≡ states w.tree v.tree
   count = omega (arith, w.states, v.states)
 
-  pub built : (rows rows' : List ℕ) (fin : ℕ) → fin ≡ finals_from x y start → Filled (y.used * 32) fs₄ ns₂ rows rows' → y.used * 32 ≤ length rows
+  pub built : (rows rows' : List ℕ) (fin : ℕ) → fin ≡ finals_from x y start → Filled (y.used * 32) t₄ rows rows' → y.used * 32 ≤ length rows
       → Built one two rows rows' y.used fin 1 start
   built rows rows' fin g h t =
       record {
@@ -66,8 +74,8 @@ module _ {one two : List ℕ} {fs₀ fs₁ fs₂ fs₃ fs₄ ns₀ ns₁ ns₂ :
         count = count;
         few = v.room;
         together =
-            filled_together w.tree v.tree fs₄ ns₂ rows rows' fin (omega (arith, count, v.room))
-            (subst (λ (z : ℕ). Filled (z * 32) fs₄ ns₂ rows rows') count h) follows names (g ∙ finals_are);
+            filled_together w.tree v.tree t₄ rows rows' fin (omega (arith, count, v.room))
+            (subst (λ (z : ℕ). Filled (z * 32) t₄ rows rows') count h) follows names (g ∙ finals_are);
         first_start = refl;
         second_start = start_is;
         fits = t;

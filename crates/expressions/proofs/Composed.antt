@@ -9,6 +9,7 @@ use lib.ListN.{length, take, get_or}
 use lib.Seq.{get_or-take, length-take-le}
 use lib.Bits.{bit_or}
 use lib.Pow.{pow-lt}
+use Rattle.std.specs.Prelude.{Ok, Err}
 use Rattle.sets.specs.Sets.{Good}
 use Rattle.sets.proofs.Bits.{has_union}
 use Rattle.sets.proofs.Goodness.{good_bits}
@@ -16,10 +17,8 @@ use Rattle.pattern.specs.Pattern.{Valid}
 use Rattle.pattern.specs.Language.{accepts, Over}
 use Rattle.expressions.specs.Expressions.{Expr, Takes}
 use Rattle.expressions.specs.Positions.{row_of, finals_of, second, states}
-use Rattle.expressions.specs.Answers.{Built, Expressed}
+use Rattle.expressions.specs.Answers.{Built, Answer, Expressed}
 use Rattle.expressions.specs.Languages.{made_of, Patterned, Answered}
-use Rattle.expressions.specs.declared.Answer.{Answer}
-use Rattle.expressions.specs.declared.Answer.TheVariants.{Done, Refused}
 use Rattle.expressions.proofs.Places.{pow_has, has_pow}
 use Rattle.expressions.proofs.Glushkov.{Accepts, row_to, final_in, first_language, second_language}
 use Rattle.expressions.proofs.Paths.{over_letters, accepts_some}
@@ -118,5 +117,5 @@ module _ {one two rows rows' : List ℕ} {n finals x y : ℕ} (b : Built one two
 
 -- what the call answers by the construction is what it promises
 pub answered : (one two rows rows' : List ℕ) (r : Answer) → Expressed one two rows rows' r → Answered one two rows rows' r
-answered one two rows rows' (Done n finals x y) b = (b, patterned b)
-answered one two rows rows' (Refused number place text) b = (b, tt)
+answered one two rows rows' (Ok p) b = (b, patterned b)
+answered one two rows rows' (Err f) b = (b, tt)

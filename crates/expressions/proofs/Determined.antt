@@ -6,15 +6,28 @@ use native.Mathlib.Decide.{dec_lt}
 use native.Mathlib.Omega.{arith}
 use lib.ListN.{length, get_or}
 use lib.Seq.{ext_get_or}
+use Rattle.std.specs.Prelude.{Ok, Err}
+use Rattle.verdict.specs.declared.Refusal.{Refusal as Why}
+use Rattle.verdict.specs.Refusals.{number}
+use Rattle.verdict.proofs.Refusals.{one_refusal}
 use Rattle.expressions.specs.Expressions.{Expr}
 use Rattle.expressions.specs.Positions.{second, states, Together}
-use Rattle.expressions.specs.Answers.{Fine, FineSecond, WrongSecond, FirstSecond, Refusal, Built, Expressed}
+use Rattle.expressions.specs.Answers.{Fine, FineSecond, WrongSecond, FirstSecond, Refusal, Built, Answer, Expressed}
 use Rattle.expressions.specs.Answers.Refusal.{first_text, second_text, no_room}
 use Rattle.expressions.specs.Languages.{Answered}
 use Rattle.expressions.specs.Meaning.{Expressible}
-use Rattle.expressions.specs.declared.Answer.{Answer}
-use Rattle.expressions.specs.declared.Answer.TheVariants.{Done, Refused}
+use Rattle.expressions.specs.declared.TextPattern.{TextPattern}
+use Rattle.expressions.specs.declared.TextFault.{TextFault}
 use Rattle.expressions.proofs.Faults.{one_first, one_meaning}
+
+same_fault : (f g : TextFault) → number f.fault.why ≡ number g.fault.why → f.fault.place ≡ g.fault.place → f.text ≡ g.text → f ≡ g
+same_fault f g a b c = alike (one_refusal a) b c
+  where
+    alike : {v w : Why} {p q t u : ℕ} → v ≡ w → p ≡ q → t ≡ u
+        → ◌≡◌ {A = TextFault} (record { fault = record { why = v; place = p }; text = t }) (record { fault = record { why = w; place = q }; text = u })
+    alike d e f = cc
+
+-- ---- the answer
 
 module _ (one two rows : List ℕ) where
   same_tree : {e f : Expr} → Fine one 1 e → Fine one 1 f → e ≡ f
@@ -24,19 +37,17 @@ module _ (one two rows : List ℕ) where
   clash : {e e' f : Expr} {n p : ℕ} → Fine one 1 e → Fine one 1 e' → FineSecond two (second e') f → FirstSecond two (second e) n p → ⊥
   clash {e} {e'} {n = n} {p} a b c d = c.faultless n p (subst (λ (z : Expr). WrongSecond two (second z) n p) (same_tree a b) d.wrong)
 
-  pub refusals : {n p t n' p' t' : ℕ} → Refusal one two rows n p t → Refusal one two rows n' p' t' → Refused n p t ≡ Refused n' p' t'
-  refusals (first_text {number = n} {place = p} f) (first_text {number = m} {place = q} g) =
-      let k = one_first f g in ap₂ (λ (x y : ℕ). Refused x y 1) k.0 k.1
+  pub refusals : {n p t n' p' t' : ℕ} → Refusal one two rows n p t → Refusal one two rows n' p' t' → (n ≡ n') × (p ≡ p') × (t ≡ t')
+  refusals (first_text f) (first_text g) = let k = one_first f g in (k.0, k.1, refl)
   refusals (first_text {number = n} {place = p} f) (second_text a b) = absurd (a.faultless n p f.wrong)
   refusals (first_text {number = n} {place = p} f) (no_room a b l) = absurd (a.faultless n p f.wrong)
   refusals (second_text a b) (first_text {number = n} {place = p} f) = absurd (a.faultless n p f.wrong)
-  refusals (second_text {number = n} {place = p} {e} a b) (second_text {number = m} {place = q} {e = e'} c d) =
-      let k = one_first b (subst (λ (z : Expr). FirstSecond two (second z) m q) (same_tree c a) d) in
-      ap₂ (λ (x y : ℕ). Refused x y 2) k.0 k.1
+  refusals (second_text a b) (second_text {number = m} {place = q} c d) =
+      let k = one_first b (subst (λ (z : Expr). FirstSecond two (second z) m q) (same_tree c a) d) in (k.0, k.1, refl)
   refusals (second_text a b) (no_room c d l) = absurd (clash a c d b)
   refusals (no_room a b l) (first_text {number = n} {place = p} f) = absurd (a.faultless n p f.wrong)
   refusals (no_room a b l) (second_text c d) = absurd (clash c a b d)
-  refusals (no_room a b l) (no_room c d m) = refl
+  refusals (no_room a b l) (no_room c d m) = (refl, refl, refl)
 
   same_both : {e e' f f' : Expr} → Fine one 1 e → Fine one 1 e' → FineSecond two (second e) f → FineSecond two (second e') f' → (e ≡ e') × (f ≡ f')
   same_both {f = f} {f'} a b c d = (same_tree a b, one_meaning two f f' c.means d.means)
@@ -74,8 +85,8 @@ module _ (one two rows : List ℕ) where
         go i (yes l) = subst (λ (j : ℕ). get_or a j 0 ≡ get_or b j 0) (let e : i / 32 * 32 + i % 32 ≡ i = omega arith in e) (at i l)
         go i (no l) = p.rest i (omega arith) ∙ sym (q.rest i (omega (arith, counts)))
 
-    same_answer : Done n x y z ≡ Done n' x' y' z'
-    same_answer =
+    same_pattern : ◌≡◌ {A = TextPattern} (record { states = n; finals = x; x = y; y = z }) (record { states = n'; finals = x'; x = y'; y = z' })
+    same_pattern =
         let f : x ≡ x' = p.together.final ∙ sym moved.final in
         let g : y ≡ y' = p.first_start ∙ sym q.first_start in
         let h : z ≡ z' = p.second_start ∙ ap (λ (e : Expr). 2 ^ second e) trees.0 ∙ sym q.second_start in
@@ -84,10 +95,10 @@ module _ (one two rows : List ℕ) where
 
   -- the statement determines the answer and the rows
   pub determined : (a b : List ℕ) (r s : Answer) → Expressed one two rows a r → Expressed one two rows b s → (r ≡ s) × (a ≡ b)
-  determined a b (Done n x y z) (Done n' x' y' z') p q = (same_answer p q, same_rows p q)
-  determined a b (Done n x y z) (Refused n' p' t') p q = absurd (not_refused (expressible p) q.0)
-  determined a b (Refused n p' t) (Done n' x' y' z') p q = absurd (not_refused (expressible q) p.0)
-  determined a b (Refused n p' t) (Refused n' q' t') p q = (refusals p.0 q.0, p.1 ∙ sym q.1)
+  determined a b (Ok f) (Ok g) p q = (ap Ok (same_pattern p q), same_rows p q)
+  determined a b (Ok f) (Err g) p q = absurd (not_refused (expressible p) q.0)
+  determined a b (Err f) (Ok g) p q = absurd (not_refused (expressible q) p.0)
+  determined a b (Err f) (Err g) p q = let k = refusals p.0 q.0 in (ap Err (same_fault f g k.0 k.1 k.2), p.1 ∙ sym q.1)
 
   pub answer_determined : (a b : List ℕ) (r s : Answer) → Answered one two rows a r → Answered one two rows b s → (r ≡ s) × (a ≡ b)
   answer_determined a b r s p q = determined a b r s p.0 q.0

@@ -17,7 +17,7 @@ pub mod Marking
 pub mod Misses
 pub mod Readers
 pub mod Refusals
-pub mod Tables
+pub mod Rows
 pub mod Both
 -- the pattern of an answer, and that the contract fixes the answer
 pub mod Paths

@@ -1,62 +1,56 @@
 -- The marks after a factor: what was read, with the marks so far.
-use mathlib.Core.Path.{◌≡◌, refl, sym, ap, ◌∙◌, subst}
-use mathlib.Core.Bool.{Bool}
+use mathlib.Core.Path.{◌≡◌, sym}
+use mathlib.Core.Bool.{Bool, true, false, ◌||◌, or-true, or-false, true≢false}
 use mathlib.Core.List.{List}
-use Prim.Native.Nat.{ℕ, ◌≤◌, ◌<◌}
-use native.Mathlib.Decide.{ℕ_discrete}
-use native.Mathlib.Omega.{arith}
-use lib.ListN.{length}
+use Prim.Native.Nat.{ℕ, ◌≤◌}
 use Rattle.expressions.specs.Grammar.Level.{factor}
-use Rattle.expressions.specs.Pieces.{decode, Looks, Peeked, Core, Looped, Nulled}
+use Rattle.expressions.specs.Grammar.Token.{mark}
+use Rattle.expressions.specs.Pieces.{mark_seen, Looks, Peeked, Core, Linked, loops, takes_empty, NoMark, Marked}
+use Rattle.expressions.specs.declared.Mark.{Mark as SeenMark}
+use Rattle.expressions.specs.declared.Mark.TheVariants.{Star, Plus, Maybe}
+use Rattle.expressions.specs.declared.Token.TheVariants.{Postfix}
 use Rattle.expressions.specs.declared.Look.{Look}
-use Rattle.expressions.proofs.Passing.{passes_le, past_le, past_more}
-use Rattle.expressions.proofs.Parts.{core_gap, core_star, core_plus, core_opt, look_token}
+use Rattle.expressions.specs.declared.Piece.{Piece}
+use Rattle.expressions.specs.declared.Tables.{Tables}
+use Rattle.expressions.proofs.Passing.{passes_le}
+use Rattle.expressions.proofs.Parts.{TokenAt, Ahead, token_ahead, mark_at, core_gap, core_star, core_plus, core_opt}
 
-pub record Marking (text : List ℕ) (null₀ : Bool) (p q used to : ℕ) (mid fs : List ℕ) (null : Bool) (k : Look) : Type 0 where
-  pub long : length fs ≡ 64
-  pub same : length fs ≡ length mid
-  pub looks : Looks text k.code k.place k.past
-  pub carry : (at d u : ℕ) (bs ns ns' : List ℕ) → Core factor text at d u bs mid ns ns' null₀ p q used to
-      → Core factor text at d u bs fs ns ns' null p q used k.place
+-- the factor x, read as far as r, with the tables as they are now
+pub record Marking (text : List ℕ) (x : Piece) (mid now : Tables) (r : Piece) : Type 0 where
+  pub looks : Looks text r.next
+  pub carry : (at d u : ℕ) (old : Tables) → Core factor text at d u old mid x.null x.first x.last x.used x.next.place
+      → Core factor text at d u old now r.null r.first r.last r.used r.next.place
 
-pub marks_first : (text : List ℕ) (null : Bool) (p q used to : ℕ) (fs : List ℕ) (k : Look) → length fs ≡ 64 → Peeked text to k
-    → Marking text null p q used to fs fs null k
-marks_first text null p q used to fs k l g = record { long = l; same = refl; looks = g.looks; carry = λ at d u bs ns ns' c. core_gap c g.gaps }
+pub marks_first : (text : List ℕ) (x : Piece) (mid : Tables) → Looks text x.next → Marking text x mid mid x
+marks_first text x mid k = record { looks = k; carry = λ at d u old c. c }
 
-pub marks_step : (text : List ℕ) (null₀ : Bool) (p q used to : ℕ) (mid fs fs' : List ℕ) (null null' : Bool) (k k' : Look)
-    → Marking text null₀ p q used to mid fs null k → (34 ≤ k.code) × (k.code ≤ 36) → Looped q p k.code fs fs' → Nulled null k.code null'
-    → Peeked text k.past k' → Marking text null₀ p q used to mid fs' null' k'
-unfolding decode
-marks_step text null₀ p q used to mid fs fs' null null' k k' i m l n g =
-    record {
-      long = l.long ∙ i.long;
-      same = l.long ∙ i.same;
-      looks = g.looks;
-      carry = λ at d u bs ns ns' c. core_gap (go (ℕ_discrete k.code 34) (ℕ_discrete k.code 35) (i.carry at d u bs ns ns' c)) g.gaps;
-    }
-  where
-    not_end : k.code ≡ 40 → ⊥
-    not_end j = omega (arith, m.1)
+-- one mark more: what it does to the tables and to the part
+pub data Goes (m : SeenMark) (firsts lasts : ℕ) (now after : Tables) : Type 0 where
+  back : loops m ≡ true → Linked lasts firsts now after → Goes m firsts lasts now after
+  on : loops m ≡ false → after ≡ now → Goes m firsts lasts now after
 
-    go : {at d u : ℕ} {bs ns ns' : List ℕ} → Dec (k.code ≡ 34) → Dec (k.code ≡ 35) → Core factor text at d u bs fs ns ns' null p q used k.place
-        → Core factor text at d u bs fs' ns ns' null' p q used k.past
-    go {at} {d} {u} {bs} {ns} {ns'} (yes j) e c =
-        subst (λ (z : Bool). Core factor text at d u bs fs' ns ns' z p q used k.past) (sym (n.takes (λ h. omega arith)))
-        (core_star c (look_token i.looks not_end (ap decode j)) (l.loops (omega arith)))
-    go {at} {d} {u} {bs} {ns} {ns'} (no j) (yes e) c =
-        subst (λ (z : Bool). Core factor text at d u bs fs' ns ns' z p q used k.past) (sym (n.keeps e))
-        (core_plus c (look_token i.looks not_end (ap decode e)) (l.loops (omega arith)))
-    go {at} {d} {u} {bs} {ns} {ns'} (no j) (no e) c =
-        let z : k.code ≡ 36 = omega (arith, m.0, m.1) in
-        subst (λ (y : List ℕ). Core factor text at d u bs y ns ns' null' p q used k.past) (sym (l.same (omega arith)))
-        (subst (λ (y : Bool). Core factor text at d u bs fs ns ns' y p q used k.past) (sym (n.takes e))
-        (core_opt c (look_token i.looks not_end (ap decode z))))
+module _ {text : List ℕ} {at d u : ℕ} {old now after : Tables} {null : Bool} {p q used to past : ℕ}
+    (c : Core factor text at d u old now null p q used to) where
+  marked_by : (m : SeenMark) → TokenAt text to past (mark (mark_seen m)) → Goes m p q now after
+      → Core factor text at d u old after (null || takes_empty m) p q used past
+  marked_by Star t (back e l) = rw or-true (core_star c t l)
+  marked_by Star t (on e s) = absurd (true≢false e)
+  marked_by Plus t (back e l) = rw or-false (core_plus c t l)
+  marked_by Plus t (on e s) = absurd (true≢false e)
+  marked_by Maybe t (back e l) = absurd (true≢false (sym e))
+  marked_by Maybe t (on e s) = rw (or-true, s) (core_opt c t)
 
--- the place after a mark lies within the text, and further on
-pub mark_past : {text : List ℕ} {code place past : ℕ} → Looks text code place past → (34 ≤ code) × (code ≤ 36) → (place < past) × (past ≤ length text)
-mark_past {text} {code} {place} {past} k m =
-    let f : code ≡ 40 → ⊥ = λ j. omega (arith, m.1) in
-    (omega (arith, past_more text place, k.beyond f), omega (arith, past_le text place (k.stands f), k.beyond f))
+pub marks_step : (text : List ℕ) (x : Piece) (mid now after : Tables) (r : Piece) (m : SeenMark) (k : Look) → Marking text x mid now r
+    → r.next.token ≡ Postfix m → Goes m r.first r.last now after → Peeked text r.next.past k
+    → Marking text x mid after (record r { null = r.null || takes_empty m; next = k })
+marks_step text x mid now after r m k i e g p =
+    record { looks = p.looks; carry = λ at d u old c. core_gap (marked_by (i.carry at d u old c) m (mark_at i.looks e) g) p.gaps }
+
+pub marks_done : {text : List ℕ} {x : Piece} {mid now : Tables} {r : Piece} → Marking text x mid now r → NoMark r.next.token → Marked text x mid now r
+marks_done i f = record { onward = λ at d u old c. record { core = i.carry at d u old c; looks = i.looks; ends = f } }
+
+pub mark_ahead : {text : List ℕ} {k : Look} {m : SeenMark} → Looks text k → k.token ≡ Postfix m → Ahead text k.place k.past
+mark_ahead k e = token_ahead (mark_at k e)
 
 pub peek_le : {text : List ℕ} {at : ℕ} {k : Look} → Peeked text at k → at ≤ k.place
 peek_le g = passes_le g.gaps

@@ -1,9 +1,11 @@
 -- What an answer to two texts means: DONE exactly where the texts can be made a pattern, and a refusal exactly where it applies.
-use mathlib.Core.Path.{◌≡◌, refl, sym, ap, subst}
+use mathlib.Core.Path.{◌≡◌, refl, sym, subst}
 use mathlib.Core.List.{List, [], Memᴰ}
 use Prim.Native.Nat.{ℕ, ◌^◌, ◌≤◌}
 use native.Mathlib.Omega.{arith}
 use lib.ListN.{length}
+use Rattle.std.specs.Prelude.{Ok, Err}
+use Rattle.verdict.specs.Refusals.{number}
 use Rattle.sets.specs.Sets.{Has}
 use Rattle.sets.proofs.Meeting.{meets_members}
 use Rattle.pattern.specs.Pattern.{Pattern}
@@ -11,13 +13,11 @@ use Rattle.pattern.specs.Language.{accepts, reach, Over}
 use Rattle.expressions.specs.Expressions.{Takes}
 use Rattle.expressions.specs.Texts.{Wrong}
 use Rattle.expressions.specs.Texts.Wrong.{misplaced, unknown, unfinished, too_many, too_deep}
-use Rattle.expressions.specs.Answers.{WrongSecond, Refusal, Built}
+use Rattle.expressions.specs.Answers.{WrongSecond, Refusal, Built, Answer}
 use Rattle.expressions.specs.Answers.WrongSecond.{no_start, in_text}
 use Rattle.expressions.specs.Answers.Refusal.{first_text, second_text, no_room}
 use Rattle.expressions.specs.Languages.{made_of, Speaks, Answered}
-use Rattle.expressions.specs.Meaning.{number_of, place_of, text_of, text_refusals, Expressible, StartFinal, HonestExpressions}
-use Rattle.expressions.specs.declared.Answer.{Answer}
-use Rattle.expressions.specs.declared.Answer.TheVariants.{Done, Refused}
+use Rattle.expressions.specs.Meaning.{text_refusals, Expressible, StartFinal, HonestExpressions}
 use Rattle.expressions.proofs.Places.{pow_has, has_pow}
 use Rattle.expressions.proofs.Determined.{refusals, not_refused}
 
@@ -77,14 +77,14 @@ module _ (one two old : List ℕ) where
   expressible b = record { left = b.left; right = b.right; one_is = b.one_is; two_is = b.two_is; enough = omega (arith, b.count, b.fits) }
 
   pub expressions_honest : (r : Answer) (new : List ℕ) → Answered one two old new r → HonestExpressions one two old r new
-  expressions_honest (Done n finals x y) new (b, p) =
+  expressions_honest (Ok r) new (b, p) =
       record {
         done = (λ e. expressible b, λ f. refl);
         made = λ e. record {
           built = b;
           speaks = p;
-          first_final = start_final {P = made_of n finals new} b.first_start p.first_speaks;
-          second_final = start_final {P = made_of n finals new} b.second_start p.second_speaks;
+          first_final = start_final {P = made_of r.states r.finals new} b.first_start p.first_speaks;
+          second_final = start_final {P = made_of r.states r.finals new} b.second_start p.second_speaks;
         };
         refused = (λ i. absurd i, λ f. f (expressible b));
         refused_by = λ number place text. (λ k. absurd k.0, λ k. absurd (not_refused one two old (expressible b) k));
@@ -93,18 +93,18 @@ module _ (one two old : List ℕ) where
         of_a_text = omega arith;
         quiet = λ i. absurd i;
       }
-  expressions_honest (Refused number place text) new ((k, same), _) =
+  expressions_honest (Err f) new ((k, same), _) =
       record {
         done = (λ e. absurd (omega (arith, e, among_high (refusal_among k))), λ f. absurd (not_refused one two old f k));
         made = λ e. absurd (omega (arith, e, among_high (refusal_among k)));
         refused = (λ i f. not_refused one two old f k, λ f. tt);
-        refused_by = λ number' place' text'. (λ (i, a, b, c). moved a b c k, λ k'. let e = refusals one two old k k' in (tt, ap number_of e, ap place_of e, ap text_of e));
+        refused_by = λ number' place' text'. (λ (i, a, b, c). moved a b c k, λ k'. let e = refusals one two old k k' in (tt, e.0, e.1, e.2));
         among = λ i. refusal_among k;
         high = λ i. among_high (refusal_among k);
         of_a_text = refusal_text k;
         quiet = λ i. same;
       }
     where
-      moved : {number' place' text' : ℕ} → number ≡ number' → place ≡ place' → text ≡ text' → Refusal one two old number place text
-          → Refusal one two old number' place' text'
-      moved {number'} {place'} a b c h = subst (λ (z : ℕ). Refusal one two old number' place' z) c (subst (λ (z : ℕ). Refusal one two old number' z text) b (subst (λ (z : ℕ). Refusal one two old z place text) a h))
+      moved : {number' place' text' : ℕ} → number f.fault.why ≡ number' → f.fault.place ≡ place' → f.text ≡ text'
+          → Refusal one two old (number f.fault.why) f.fault.place f.text → Refusal one two old number' place' text'
+      moved {number'} {place'} a b c h = subst (λ (z : ℕ). Refusal one two old number' place' z) c (subst (λ (z : ℕ). Refusal one two old number' z f.text) b (subst (λ (z : ℕ). Refusal one two old z f.fault.place f.text) a h))

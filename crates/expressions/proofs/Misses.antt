@@ -1,29 +1,29 @@
 -- How the pass comes on over what was read, and where it stops.
-use mathlib.Core.Path.{◌≡◌, refl, sym, ap, ap₂, ◌∙◌}
+use mathlib.Core.Path.{◌≡◌, refl, sym, ap, ◌∙◌}
 use mathlib.Core.Logic.{inl, inr}
-use mathlib.Core.Bool.{Bool, true, false, cond, ◌&&◌, ◌||◌}
+use mathlib.Core.Bool.{Bool, true, false, cond, true≢false}
 use mathlib.Core.List.{List, [], ◌∷◌, ◌++◌}
-use Prim.Native.Nat.{ℕ, suc, ◌+◌, ◌≤◌, ◌<◌}
+use Prim.Native.Nat.{ℕ, suc, ◌+◌, ◌<◌}
 use native.Mathlib.Numerals.{add-one}
-use native.Mathlib.Decide.{dec_le, dec_lt, ℕ_discrete}
 use native.Mathlib.Omega.{arith}
-use lib.Dec.{eqb}
-use borrow.Author.Tests.{lt-ltb, le-ltb, lt-leb, eq-eqb}
+use borrow.Author.Tests.{lt-leb}
 use Rattle.expressions.specs.Grammar.{Token, Level}
-use Rattle.expressions.specs.Grammar.Mark.{many, some, maybe}
 use Rattle.expressions.specs.Grammar.Level.{alternation}
-use Rattle.expressions.specs.Grammar.Token.{mark, bar, open', close'}
+use Rattle.expressions.specs.Grammar.Token.{bar, open'}
 use Rattle.expressions.specs.Texts.{Passes}
-use Rattle.expressions.specs.Texts.Item.{token}
 use Rattle.expressions.specs.Texts.Passes.{here}
-use Rattle.expressions.specs.Scan.{scan, Stops, Here, Comes, Faults}
+use Rattle.expressions.specs.Scan.{scan, Here, Comes, Faults}
 use Rattle.expressions.specs.Scan.Phase.{going, halted}
-use Rattle.expressions.specs.Scan.Stops.{no_mark, no_bar, no_close}
+use Rattle.expressions.specs.Scan.Stops.{no_mark, no_bar, no_close, none_open}
 use Rattle.expressions.specs.Scan.Here.{bad_here, end_here, stop_here}
-use Rattle.expressions.specs.Pieces.{decode, begins_with, Looks, Core, Ends}
+use Rattle.expressions.specs.Pieces.{begins, Looks, Core, Ends}
+use Rattle.expressions.specs.declared.Look.{Look}
+use Rattle.expressions.specs.declared.Tables.{Tables}
+use Rattle.expressions.specs.declared.Token.{Token as Seen}
+use Rattle.expressions.specs.declared.Token.TheVariants.{Event, One, Zero, Postfix, Bar, Open, Close, End, Unknown}
 use Rattle.expressions.proofs.Faults.{scan_append}
 use Rattle.expressions.proofs.Passing.{passes_on}
-use Rattle.expressions.proofs.Parts.{TokenAt, token_passes, look_token}
+use Rattle.expressions.proofs.Parts.{TokenAt, token_passes, mark_at, bar_at, close_at, unknown_at}
 
 pub fault_on : {text : List ℕ} {at d u to d' u' number place : ℕ} {n n' : Bool} {ts : List Token} → Comes text at n d u to n' d' u' ts
     → Faults text to n' d' u' number place → Faults text at n d u number place
@@ -47,8 +47,8 @@ fault_here {d = d} {u} {n = n} h = record { tokens = []; need = n; depth = d; us
 pub gap_comes : {text : List ℕ} {at to : ℕ} (n : Bool) (d u : ℕ) → Passes text at [] to → Comes text at n d u to n d u []
 gap_comes n d u p = record { passes = p; scans = refl }
 
-pub core_comes : {l : Level} {text : List ℕ} {at d u : ℕ} {fs fs' ns ns' : List ℕ} {null : Bool} {p q used to : ℕ} (n : Bool)
-    (k : Core l text at d u fs fs' ns ns' null p q used to)
+pub core_comes : {l : Level} {text : List ℕ} {at d u : ℕ} {old new : Tables} {null : Bool} {p q used to : ℕ} (n : Bool)
+    (k : Core l text at d u old new null p q used to)
     → Comes text at n d u to false d used k.tokens
 core_comes n k = record { passes = k.passes; scans = k.scans n }
 
@@ -63,42 +63,52 @@ open_comes n d u t l =
 pub bar_comes : {text : List ℕ} {place past : ℕ} (d u : ℕ) → TokenAt text place past bar → Comes text place false d u past true d u (bar ∷ [])
 bar_comes d u t = record { passes = token_passes t; scans = refl }
 
-pub not_begins : (c : ℕ) → begins_with c ≡ false → (34 ≤ c) × (c ≡ 38 → ⊥)
-not_begins c e = go (dec_lt c 34) (ℕ_discrete c 38)
-  where
-    go : Dec (c < 34) → Dec (c ≡ 38) → (34 ≤ c) × (c ≡ 38 → ⊥)
-    go (yes l) d = absurd (mathlib.Core.Bool.true≢false (sym (ap (λ (t : Bool). t || eqb c 38) (lt-ltb c 34 l)) ∙ e))
-    go (no l) (yes j) = absurd (mathlib.Core.Bool.true≢false (sym (ap₂ (λ (t v : Bool). t || v) (le-ltb c 34 (omega arith)) (eq-eqb c 38 j)) ∙ e))
-    go (no l) (no j) = (omega arith, j)
-
 -- nothing but a closing parenthesis can follow an alternation, inside one
-pub unclosed : {text : List ℕ} {code place past : ℕ} (d u : ℕ) → Looks text code place past → Ends alternation code → (code ≡ 39 → ⊥)
-    → Here text place false (suc d) u 30
-unfolding decode
-unclosed {text} {code} {place} d u k e f = go (ℕ_discrete code 40)
+pub unclosed : {text : List ℕ} {k : Look} (d u : ℕ) → Looks text k → Ends alternation k.token → (k.token ≡ Close → ⊥)
+    → Here text k.place false (suc d) u 30
+unclosed {text} {k} d u l e f = go k.token refl
   where
-    go : Dec (code ≡ 40) → Here text place false (suc d) u 30
-    go (yes j) = end_here (k.end j) (inr (omega arith))
-    go (no j) = let z : code ≡ 41 = omega (arith, e.0, (not_begins code e.1).1, k.known) in bad_here (k.stands j) (k.item j ∙ ap decode z)
+    go : (t : Seen) → k.token ≡ t → Here text k.place false (suc d) u 30
+    go (Event a) j = absurd (true≢false (ap begins (sym j) ∙ e.1))
+    go One j = absurd (true≢false (ap begins (sym j) ∙ e.1))
+    go Zero j = absurd (true≢false (ap begins (sym j) ∙ e.1))
+    go (Postfix m) j = absurd (e.0 m j)
+    go Bar j = absurd (e.2 j)
+    go Open j = absurd (true≢false (ap begins (sym j) ∙ e.1))
+    go Close j = absurd (f j)
+    go End j = end_here (l.end j) (inr (omega arith))
+    go Unknown j = let a = unknown_at l j in bad_here a.inside a.item
+
+-- nor can anything follow one that is not inside
+pub unended : {text : List ℕ} {k : Look} (u : ℕ) → Looks text k → Ends alternation k.token → (k.token ≡ End → ⊥)
+    → Here text k.place false 0 u 30
+unended {text} {k} u l e f = go k.token refl
+  where
+    go : (t : Seen) → k.token ≡ t → Here text k.place false 0 u 30
+    go (Event a) j = absurd (true≢false (ap begins (sym j) ∙ e.1))
+    go One j = absurd (true≢false (ap begins (sym j) ∙ e.1))
+    go Zero j = absurd (true≢false (ap begins (sym j) ∙ e.1))
+    go (Postfix m) j = absurd (e.0 m j)
+    go Bar j = absurd (e.2 j)
+    go Open j = absurd (true≢false (ap begins (sym j) ∙ e.1))
+    go Close j = let a = close_at l j in stop_here a.inside a.item none_open
+    go End j = absurd (f j)
+    go Unknown j = let a = unknown_at l j in bad_here a.inside a.item
 
 -- where a factor must come, and none does
-pub no_factor : {text : List ℕ} {code place past : ℕ} (d u : ℕ) → Looks text code place past → begins_with code ≡ false → Here text place true d u 30
-unfolding decode
-no_factor {text} {code} {place} {past} d u k e =
-    let n = not_begins code e in
-    go n.0 n.1 (dec_le code 34) (dec_le code 35) (dec_le code 36) (dec_le code 37) (dec_le code 38) (dec_le code 39) (dec_le code 40)
+pub no_factor : {text : List ℕ} {k : Look} (d u : ℕ) → Looks text k → begins k.token ≡ false → Here text k.place true d u 30
+no_factor {text} {k} d u l e = go k.token refl
   where
-    stop : (v : ℕ) (t : Token) → code ≡ v → (v ≡ 40 → ⊥) → decode v ≡ token t → Stops t true d → Here text place true d u 30
-    stop v t j f h s = let q = look_token k (λ i. f (sym j ∙ i)) (ap decode j ∙ h) in stop_here q.inside q.item s
+    begun : (t : Seen) → k.token ≡ t → begins t ≡ true → Here text k.place true d u 30
+    begun t j b = absurd (true≢false (sym b ∙ ap begins (sym j) ∙ e))
 
-    go : 34 ≤ code → (code ≡ 38 → ⊥) → Dec (code ≤ 34) → Dec (code ≤ 35) → Dec (code ≤ 36) → Dec (code ≤ 37) → Dec (code ≤ 38) → Dec (code ≤ 39)
-        → Dec (code ≤ 40) → Here text place true d u 30
-    go l f (yes a0) a1 a2 a3 a4 a5 a6 = stop 34 (mark many) (omega arith) (λ i. omega arith) refl no_mark
-    go l f (no a0) (yes a1) a2 a3 a4 a5 a6 = stop 35 (mark some) (omega arith) (λ i. omega arith) refl no_mark
-    go l f (no a0) (no a1) (yes a2) a3 a4 a5 a6 = stop 36 (mark maybe) (omega arith) (λ i. omega arith) refl no_mark
-    go l f (no a0) (no a1) (no a2) (yes a3) a4 a5 a6 = stop 37 bar (omega arith) (λ i. omega arith) refl no_bar
-    go l f (no a0) (no a1) (no a2) (no a3) (yes a4) a5 a6 = absurd (f (omega arith))
-    go l f (no a0) (no a1) (no a2) (no a3) (no a4) (yes a5) a6 = stop 39 close' (omega arith) (λ i. omega arith) refl no_close
-    go l f (no a0) (no a1) (no a2) (no a3) (no a4) (no a5) (yes a6) = end_here (k.end (omega arith)) (inl refl)
-    go l f (no a0) (no a1) (no a2) (no a3) (no a4) (no a5) (no a6) =
-        let b : code ≡ 41 = omega (arith, k.known) in bad_here (k.stands (λ i. omega arith)) (k.item (λ i. omega arith) ∙ ap decode b)
+    go : (t : Seen) → k.token ≡ t → Here text k.place true d u 30
+    go (Event a) j = begun (Event a) j refl
+    go One j = begun One j refl
+    go Zero j = begun Zero j refl
+    go (Postfix m) j = let a = mark_at l j in stop_here a.inside a.item no_mark
+    go Bar j = let a = bar_at l j in stop_here a.inside a.item no_bar
+    go Open j = begun Open j refl
+    go Close j = let a = close_at l j in stop_here a.inside a.item no_close
+    go End j = end_here (l.end j) (inl refl)
+    go Unknown j = let a = unknown_at l j in bad_here a.inside a.item

@@ -5,20 +5,20 @@ use mathlib.Core.List.{List}
 use Prim.Native.Nat.{ℕ, suc, ◌+◌, ◌*◌, ◌≤◌, ◌<◌}
 use native.Mathlib.Omega.{arith}
 use lib.ListN.{length}
+use Rattle.std.specs.Prelude.{Result, Ok, Err}
+use Rattle.verdict.specs.declared.Fault.{Fault}
+use Rattle.verdict.specs.Refusals.{number}
 use Rattle.expressions.specs.Expressions.{Expr}
 use Rattle.expressions.specs.Positions.{second}
 use Rattle.expressions.specs.Texts.{Wrong, FirstFault, opens, shuts}
 use Rattle.expressions.specs.Texts.Wrong.{misplaced, unknown, unfinished, too_many, too_deep}
-use Rattle.expressions.specs.Both.{Whole, Judged}
+use Rattle.expressions.specs.Both.{Whole, Judged, Crowded}
 use Rattle.expressions.specs.Answers.{Fine, FineSecond, WrongSecond, FirstSecond, Refusal, Expressed}
 use Rattle.expressions.specs.Answers.WrongSecond.{no_start, in_text}
-use Rattle.expressions.specs.Both.{Crowded}
 use Rattle.expressions.specs.Answers.Refusal.{second_text, no_room}
 use Rattle.expressions.specs.declared.Piece.{Piece}
-use Rattle.expressions.specs.declared.Part.{Part}
-use Rattle.expressions.specs.declared.Part.TheVariants.{Read, Fault}
-use Rattle.expressions.specs.declared.Answer.{Answer}
-use Rattle.expressions.specs.declared.Answer.TheVariants.{Refused}
+use Rattle.expressions.specs.declared.Tables.{Tables}
+use Rattle.expressions.specs.declared.TextFault.{TextFault}
 use Rattle.expressions.proofs.Passing.{none_here}
 
 -- with 64 states taken and with 65 the same things are wrong
@@ -78,7 +78,7 @@ module _ (text : List ℕ) where
       least m q (no_start g) = inr (refl, omega arith)
       least m q (in_text w) = absurd (f m q (down w))
 
-pub fine : {text : List ℕ} {u : ℕ} {fs fs' ns ns' : List ℕ} {x : Piece} (w : Whole text u fs fs' ns ns' x) → Fine text u w.tree
+pub fine : {text : List ℕ} {u : ℕ} {old new : Tables} {x : Piece} (w : Whole text u old new x) → Fine text u w.tree
 fine w = record { means = w.means; faultless = w.faultless }
 
 pub fine_second : (text : List ℕ) (b : ℕ) (e : Expr) → b < 64 → Fine text (suc b) e → FineSecond text b e
@@ -90,14 +90,14 @@ fine_second text b e l k = record { means = k.means; faultless = faultless }
 
 -- ---- after a first text that nothing is wrong with
 
-module _ {one fs fs' ns ns' : List ℕ} {x : Piece} (w : Whole one 1 fs fs' ns ns' x) where
+module _ {one : List ℕ} {old new : Tables} {x : Piece} (w : Whole one 1 old new x) where
   pub at_second : x.used ≡ second w.tree
   at_second = omega (arith, w.states)
 
   pub after_second : x.used + 1 ≡ suc (second w.tree)
   after_second = omega (arith, w.states)
 
-  pub second_fine : {two gs gs' ms ms' : List ℕ} {y : Piece} (v : Whole two (x.used + 1) gs gs' ms ms' y) → FineSecond two (second w.tree) v.tree
+  pub second_fine : {two : List ℕ} {from to : Tables} {y : Piece} (v : Whole two (x.used + 1) from to y) → FineSecond two (second w.tree) v.tree
   second_fine {two} v =
       fine_second two (second w.tree) v.tree (omega (arith, w.states, v.states, v.room))
       (subst (λ (z : ℕ). Fine two z v.tree) after_second (fine v))
@@ -108,17 +108,27 @@ module _ {one fs fs' ns ns' : List ℕ} {x : Piece} (w : Whole one 1 fs fs' ns n
         second_text (fine w)
         (second_first two (second w.tree) n p (omega (arith, at_second)) (subst (λ (z : ℕ). FirstFault two z n p) after_second f))
 
-    pub refuse_room : {gs gs' ms ms' : List ℕ} {y : Piece} → Whole two (x.used + 1) gs gs' ms ms' y → length rows < y.used * 32
+    pub refuse_room : {from to : Tables} {y : Piece} → Whole two (x.used + 1) from to y → length rows < y.used * 32
         → Refusal one two rows 14 0 0
     refuse_room v l = no_room (fine w) (second_fine v) (omega (arith, w.states, v.states))
 
-  module _ (two rows hs hs' ms ms' : List ℕ) (l : 64 ≤ x.used) where
-    refuse_start : {n : ℕ} {r : Answer} → r ≡ Refused n 0 2 → FirstSecond two 64 n 0 → Expressed one two rows rows r
-    refuse_start {n} {r} e f =
-        let full : 64 ≡ second w.tree = omega (arith, at_second, w.room) in
-        subst (Expressed one two rows rows) (sym e) (second_text (fine w) (subst (λ (z : ℕ). FirstSecond two z n 0) full f), refl)
+  module _ (two rows : List ℕ) (l : 64 ≤ x.used) where
+    full : 64 ≡ second w.tree
+    full = omega (arith, at_second, w.room)
 
-    pub refuse_crowded : (b : Part) (r : Answer) → Judged two 64 hs hs' ms ms' b → Crowded b r → Expressed one two rows rows r
-    refuse_crowded (Read y) r j c = refuse_start c (crowded_fine two j.0.faultless)
-    refuse_crowded (Fault n p) r j c =
-        ⊎_elim (λ d. refuse_start d.1 (crowded_zero two n p d.0 j.0)) (λ d. refuse_start d.1 (crowded_later two n p d.0 j.0)) c
+    refuse_start : {n : ℕ} → FirstSecond two 64 n 0 → Refusal one two rows n 0 2
+    refuse_start {n} f = second_text (fine w) (subst (λ (z : ℕ). FirstSecond two z n 0) full f)
+
+    pub refuse_crowded : (from to : Tables) (b : Result Piece Fault) (r : TextFault) → Judged two 64 from to b → Crowded b r
+        → Expressed one two rows rows (Err r)
+    refuse_crowded from to (Ok y) r j c =
+        subst (λ (z : TextFault). Expressed one two rows rows (Err z)) (sym c) (refuse_start (crowded_fine two j.faultless), refl)
+    refuse_crowded from to (Err f) r j c =
+        ⊎_elim
+        (λ d.
+        subst (λ (z : TextFault). Expressed one two rows rows (Err z)) (sym d.1)
+        (subst (λ (z : ℕ). Refusal one two rows (number f.why) z 2) (sym d.0) (refuse_start (crowded_zero two (number f.why) f.place d.0 j)), refl))
+        (λ d.
+        subst (λ (z : TextFault). Expressed one two rows rows (Err z)) (sym d.1)
+        (refuse_start (crowded_later two (number f.why) f.place d.0 j), refl))
+        c

@@ -4,13 +4,17 @@
 --   Refusal one two rows number place text
 --                        how the texts are refused: the first text goes first, and the room for the rows comes last
 --   Built                the pattern that they become
+--   of_text              a fault of the text of that number
+--   Answer               what the call answers: the numbers of the pattern, or why a text is refused
 --   Expressed            the answer: the pattern, or a refusal with the rows as they were. It is determined (`answer_determined`)
-use Rattle.std.specs.Prelude.{◌≡◌, List, ℕ, suc, ◌*◌, ◌^◌, ◌≤◌, ◌<◌, length, get_or}
+use Rattle.std.specs.Prelude.{◌≡◌, List, ℕ, suc, ◌*◌, ◌^◌, ◌≤◌, ◌<◌, length, get_or, Result, Ok, Err}
+use Rattle.verdict.specs.declared.Fault.{Fault}
+use Rattle.verdict.specs.Refusals.{number}
 use Rattle.expressions.specs.Expressions.{Expr}
 use Rattle.expressions.specs.Positions.{second, states, Together}
 use Rattle.expressions.specs.Texts.{Means, Wrong, FirstOf, FirstFault}
-use Rattle.expressions.specs.declared.Answer.{Answer}
-use Rattle.expressions.specs.declared.Answer.TheVariants.{Done, Refused}
+use Rattle.expressions.specs.declared.TextPattern.{TextPattern}
+use Rattle.expressions.specs.declared.TextFault.{TextFault}
 
 -- a text that nothing is wrong with, its first name at state `taken`
 pub record Fine (text : List ℕ) (taken : ℕ) (e : Expr) : Type 0 where
@@ -49,6 +53,13 @@ pub record Built (one two rows rows' : List ℕ) (n finals x y : ℕ) : Type 0 w
   pub long : length rows' ≡ length rows
   pub rest : (i : ℕ) → n * 32 ≤ i → get_or rows' i 0 ≡ get_or rows i 0
 
+-- a fault of the text of that number
+abbrev pub of_text : ℕ → Fault → TextFault
+of_text text f = record { fault = f; text = text }
+
+abbrev pub Answer : Type 0
+Answer = Result TextPattern TextFault
+
 abbrev pub Expressed : List ℕ → List ℕ → List ℕ → List ℕ → Answer → Type 0
-Expressed one two rows rows' (Done n finals x y) = Built one two rows rows' n finals x y
-Expressed one two rows rows' (Refused number place text) = Refusal one two rows number place text × (rows' ≡ rows)
+Expressed one two rows rows' (Ok p) = Built one two rows rows' p.states p.finals p.x p.y
+Expressed one two rows rows' (Err f) = Refusal one two rows (number f.fault.why) f.fault.place f.text × (rows' ≡ rows)

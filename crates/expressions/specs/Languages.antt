@@ -3,15 +3,13 @@
 --   Speaks P set text         the text is right, and the set accepts exactly the event sequences that its expression takes
 --   Patterned one two ..      a pattern that no call refuses, of 2 states at least, whose two starts speak the two texts
 --   Answered one two ..       what the public call promises
-use Rattle.std.specs.Prelude.{◌≡◌, true, ◌↔◌, List, ℕ, ◌*◌, ◌≤◌, take}
+use Rattle.std.specs.Prelude.{◌≡◌, true, ◌↔◌, List, ℕ, ◌*◌, ◌≤◌, take, Ok, Err}
 use Rattle.sets.specs.Sets.{Good}
 use Rattle.pattern.specs.Pattern.{Pattern, pattern_of, Valid}
 use Rattle.pattern.specs.Language.{accepts, Over}
 use Rattle.expressions.specs.Expressions.{Expr, Takes}
 use Rattle.expressions.specs.Texts.{Means}
-use Rattle.expressions.specs.Answers.{Expressed}
-use Rattle.expressions.specs.declared.Answer.{Answer}
-use Rattle.expressions.specs.declared.Answer.TheVariants.{Done, Refused}
+use Rattle.expressions.specs.Answers.{Answer, Expressed}
 
 abbrev pub made_of : ℕ → ℕ → List ℕ → Pattern
 made_of n finals rows = pattern_of n 32 finals (take (n * 32) rows)
@@ -30,8 +28,8 @@ pub record Patterned (one two rows : List ℕ) (n finals x y : ℕ) : Type 0 whe
   pub second_speaks : Speaks (made_of n finals rows) y two
 
 abbrev pub Spoken : List ℕ → List ℕ → List ℕ → Answer → Type 0
-Spoken one two rows (Done n finals x y) = Patterned one two rows n finals x y
-Spoken one two rows (Refused number place text) = Unit {0}
+Spoken one two rows (Ok p) = Patterned one two rows p.states p.finals p.x p.y
+Spoken one two rows (Err f) = Unit {0}
 
 abbrev pub Answered : List ℕ → List ℕ → List ℕ → List ℕ → Answer → Type 0
 Answered one two rows rows' r = Expressed one two rows rows' r × Spoken one two rows' r

@@ -4,32 +4,31 @@
 --   text_refusals               the numbers that it has then
 --   Expressible one two room    both texts are right, nothing is wrong with either, and the rows have room
 --   HonestExpressions           what an answer means (`expressions_honest`)
-use Rattle.std.specs.Prelude.{◌≡◌, ◌↔◌, List, [], ◌∷◌, ℕ, ◌*◌, ◌≤◌, length}
+use Rattle.std.specs.Prelude.{◌≡◌, ◌↔◌, List, [], ◌∷◌, ℕ, ◌*◌, ◌≤◌, length, Ok, Err}
 use mathlib.Core.List.{Memᴰ}
+use Rattle.verdict.specs.Refusals.{number}
 use Rattle.sets.specs.Sets.{Has}
 use Rattle.expressions.specs.Expressions.{Expr, Takes}
 use Rattle.expressions.specs.Positions.{second, states}
 use Rattle.expressions.specs.Texts.{Means}
-use Rattle.expressions.specs.Answers.{Fine, FineSecond, Refusal, Built}
+use Rattle.expressions.specs.Answers.{Fine, FineSecond, Refusal, Built, Answer}
 use Rattle.expressions.specs.Languages.{Patterned}
-use Rattle.expressions.specs.declared.Answer.{Answer}
-use Rattle.expressions.specs.declared.Answer.TheVariants.{Done, Refused}
 
 abbrev pub number_of : Answer → ℕ
-number_of (Done n finals x y) = 7
-number_of (Refused number place text) = number
+number_of (Ok p) = 7
+number_of (Err f) = number f.fault.why
 
 abbrev pub place_of : Answer → ℕ
-place_of (Done n finals x y) = 0
-place_of (Refused number place text) = place
+place_of (Ok p) = 0
+place_of (Err f) = f.fault.place
 
 abbrev pub text_of : Answer → ℕ
-text_of (Done n finals x y) = 0
-text_of (Refused number place text) = text
+text_of (Ok p) = 0
+text_of (Err f) = f.text
 
 abbrev pub IsRefused : Answer → Type 0
-IsRefused (Done n finals x y) = ⊥
-IsRefused (Refused number place text) = Unit {0}
+IsRefused (Ok p) = ⊥
+IsRefused (Err f) = Unit {0}
 
 abbrev pub text_refusals : List ℕ
 text_refusals = 30 ∷ 31 ∷ 32 ∷ 14 ∷ []
@@ -56,8 +55,8 @@ pub record Made (one two old new : List ℕ) (n finals x y : ℕ) : Type 0 where
   pub second_final : StartFinal finals (second built.left) two
 
 abbrev pub MadeBy : List ℕ → List ℕ → List ℕ → List ℕ → Answer → Type 0
-MadeBy one two old new (Done n finals x y) = Made one two old new n finals x y
-MadeBy one two old new (Refused number place text) = ⊥
+MadeBy one two old new (Ok p) = Made one two old new p.states p.finals p.x p.y
+MadeBy one two old new (Err f) = ⊥
 
 -- 7 DONE exactly where the texts can be made a pattern, and then that pattern is left; a refusal exactly where it applies, by its number, its
 -- place and its text, and then nothing is changed

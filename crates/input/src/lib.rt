@@ -6,6 +6,7 @@ ghost use Rattle.std.specs.Prelude.{◌≤◌, length};
 use std::io::Read;
 
 // Fills the buffer as far as the input goes, and gives how many bytes came. A read that fails ends the input.
+// By `while`: each read says how many bytes came.
 pub fn take_in<R: Read>(input: &mut R, bytes: &mut [u8]) -> usize
     ensures { result ≤ length bytes.new }
 {

@@ -1,3 +1,4 @@
 -- Laws that belong to no one function.
 pub mod Laying
 pub mod Putting
+pub mod Filling

@@ -7,7 +7,7 @@ use native.Mathlib.Numerals.{add-one}
 use native.Mathlib.Omega.{arith}
 use lib.ListN.{length, take, drop, get_or, set, length-append, length-drop, take-append-drop}
 use lib.Seq.{length-take-le, take_at, drop_at, drop-drop, drop-cons, set_split, append_snoc}
-use Rattle.lent.specs.Lent.{lay, Put}
+use Rattle.lent.specs.Lent.{lay, lay_at, Put}
 use Rattle.lent.proofs.Laying.{lay_at_start, lay_at_parts}
 
 -- ---- what Put means
@@ -76,6 +76,12 @@ put_none old at h =
 
 pub put_one : (old : List ℕ) (at b : ℕ) → at < length old → Put old at (b ∷ []) (at + 1) (set old at b)
 put_one old at b h = put_made old at (b ∷ []) refl (omega arith) (set_split old at b h ∙ rw (append_snoc, add-one))
+
+-- a copy of them laid over as many
+pub put_copied : (old copied a : List ℕ) (at n : ℕ) → copied ≡ a → n ≡ length a → at + length a ≤ length old
+    → Put old at a (at + length a) (take at old ++ (copied ++ drop n (drop at old)))
+unfolding lay_at lay
+put_copied old copied a at n c e h = record { ends = refl; within = h; laid = rw (c, e) }
 
 pub put_as : {old : List ℕ} {at : ℕ} {a b : List ℕ} {next : ℕ} {new : List ℕ} → Put old at a next new → a ≡ b → Put old at b next new
 put_as p e = rw e at p

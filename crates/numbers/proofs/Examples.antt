@@ -3,9 +3,9 @@ use Prim.Native.Nat.{◌-◌, ◌^◌}
 use mathlib.Core.List.{[], ◌∷◌}
 use mathlib.Core.Path.{◌≡◌, refl}
 use Rattle.verdict.specs.Tests.{need, in_order}
-use Rattle.numbers.specs.declared.Number.TheVariants.{Value, Fault}
-use Rattle.numbers.specs.declared.NumberRead.TheVariants.{Done}
 use Rattle.numbers.specs.Numbers.{encode_in, encode, byte_test, groups, number_at, read_at}
+use Rattle.numbers.specs.Numbers.Number.{Value, Fault}
+use Rattle.numbers.specs.Numbers.NumberRead.{Done}
 
 -- 300 is AC 02
 pub three_hundred : encode 300 ≡ 0xac ∷ 0x02 ∷ []

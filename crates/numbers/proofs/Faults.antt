@@ -6,10 +6,10 @@ use mathlib.Core.Path.{◌≡◌, sym, ap, ◌∙◌}
 use native.Mathlib.Decide.{ℕ_discrete}
 use native.Mathlib.Omega.{arith}
 use lib.ListN.{length, drop, get_or}
-use Rattle.verdict.specs.declared.Verdict.TheVariants.{Fine, Against}
+use Rattle.verdict.specs.Verdict.Verdict.{Fine, Against}
 use Rattle.verdict.proofs.Ordered.{apart, one_number}
-use Rattle.numbers.specs.declared.Number.TheVariants.{Fault}
 use Rattle.numbers.specs.Numbers.{byte_test, Form, whole, faulty, more, groups, placed, number_at}
+use Rattle.numbers.specs.Numbers.Number.{Fault}
 use Rattle.numbers.specs.Faults.{EndsEarly, Needless, Beyond, BadlyWritten, Padded, TooBig}
 use Rattle.numbers.proofs.Groups.{faulty_whole, fine_when, against_zero, against_tenth, groups_none, groups_bad, groups_more, groups_cases}
 use Rattle.numbers.proofs.RoundTrip.{fault_value}

@@ -9,11 +9,10 @@ use lib.Dec.{ltb}
 use lib.ListN.{length, drop, length-append, drop_of_length-le}
 use lib.Seq.{drop-append_seam, drop-drop}
 use borrow.Author.Tests.{lt-ltb, le-ltb}
-use Rattle.verdict.specs.declared.Verdict.{Verdict}
-use Rattle.verdict.specs.declared.Verdict.TheVariants.{Fine, Against}
-use Rattle.numbers.specs.declared.Number.{Number}
-use Rattle.numbers.specs.declared.Number.TheVariants.{Value, Fault}
-use Rattle.numbers.specs.Numbers.{encode, number_at, AreBytes}
+use Rattle.verdict.specs.Verdict.{Verdict}
+use Rattle.verdict.specs.Verdict.Verdict.{Fine, Against}
+use Rattle.numbers.specs.Numbers.{Number, encode, number_at, AreBytes}
+use Rattle.numbers.specs.Numbers.Number.{Value, Fault}
 use Rattle.numbers.specs.Format.{Format, ended, item, gate, Reading, got, refused, ruled, held_to, or_refused, unless_refused, before, reading, no_tail, file_reading, encode_all, Fits}
 use Rattle.numbers.proofs.RoundTrip.{Found, read_after_write, write_after_read, fault_value}
 

@@ -2,6 +2,7 @@
 pub mod Groups
 pub mod RoundTrip
 pub mod Faults
+pub mod Faulted
 pub mod TenBytes
 pub mod Worth
 pub mod Taking

@@ -8,8 +8,7 @@ use native.Mathlib.Numerals.{add-one}
 use native.Mathlib.Omega.{arith}
 use lib.ListN.{length, drop, get_or, drop_of_length-le}
 use lib.Seq.{drop-cons}
-use Rattle.verdict.specs.declared.Verdict.TheVariants.{Fine, Against}
-use Rattle.numbers.specs.declared.NumberRead.TheVariants.{Done, Refused}
+use Rattle.verdict.specs.Verdict.Verdict.{Fine, Against}
 use Rattle.numbers.specs.Numbers.{byte_test, Form, whole, faulty, more, groups, answered, read_at}
 use Rattle.numbers.proofs.Groups.{fine_tenth, fine_more, groups_none, groups_bad, groups_last, groups_more}
 
@@ -18,11 +17,11 @@ abbrev pub carry : ℕ → ℕ → ℕ → Form → Form
 carry value weight i (whole v n) = whole (value + v * weight) (i + n)
 carry value weight i (faulty w) = faulty w
 
-pub record Going (s : List ℕ) (at value weight place i : ℕ) : Type 0 where
+pub record Going (rest : List ℕ) (value weight i : ℕ) : Type 0 where
   pub few : i ≤ 9
   pub power : weight ≡ 128 ^ i
   pub small : value < weight
-  pub same : groups 0 (drop at s) ≡ carry value weight i (groups i (drop place s))
+  pub same : groups 0 rest ≡ carry value weight i (groups i (drop i rest))
 
 carry_more : (value weight i g : ℕ) (f : Form) → carry value weight i (more g f) ≡ carry (value + g * weight) (weight * 128) (i + 1) f
 carry_more value weight i g (whole v n) =
@@ -33,29 +32,29 @@ carry_more value weight i g (whole v n) =
     cc
 carry_more value weight i g (faulty w) = refl
 
-answer_is : (s : List ℕ) (at : ℕ) (f : Form) → groups 0 (drop at s) ≡ f → answered at f ≡ read_at s at
-unfolding read_at
-answer_is s at f h = rw h
-
 powers : (i j : ℕ) → i ≤ j → 128 ^ i ≤ 128 ^ j
 powers i j h = pow-le-pow_right (zero-lt-suc 127) h
 
-module _ {s : List ℕ} {at value weight place i : ℕ} (g : Going s at value weight place i) where
-  pub going_cut : length s ≤ place → Refused 20 at ≡ read_at s at
-  going_cut h = answer_is s at (faulty 20) (g.same ∙ ap (carry value weight i) (ap (groups i) (drop_of_length-le s h) ∙ groups_none i))
+-- what stands at a place is what the data from there on say
+pub answer_is : (s : List ℕ) (at : ℕ) {f : Form} → groups 0 (drop at s) ≡ f → answered at f ≡ read_at s at
+unfolding read_at
+answer_is s at h = rw h
 
-  module _ {b : ℕ} (h : place < length s) (e : b ≡ get_or s place 0) where
-    head : groups i (drop place s) ≡ groups i (b ∷ drop (suc place) s)
-    head = ap (groups i) (drop-cons s place 0 h ∙ rw e)
+module _ {rest : List ℕ} {value weight i : ℕ} (g : Going rest value weight i) where
+  pub going_cut : length rest ≤ i → groups 0 rest ≡ faulty 20
+  going_cut h = g.same ∙ ap (carry value weight i) (ap (groups i) (drop_of_length-le rest h) ∙ groups_none i)
 
-    pub going_bad : {w : ℕ} → byte_test i b ≡ Against w → Refused w at ≡ read_at s at
-    going_bad {w} j = answer_is s at (faulty w) (g.same ∙ ap (carry value weight i) (head ∙ groups_bad i b (drop (suc place) s) j))
+  module _ {b : ℕ} (h : i < length rest) (e : b ≡ get_or rest i 0) where
+    head : groups i (drop i rest) ≡ groups i (b ∷ drop (suc i) rest)
+    head = ap (groups i) (drop-cons rest i 0 h ∙ rw e)
 
-    pub going_last : byte_test i b ≡ Fine → b < 128 → Done (value + b * weight) (i + 1) ≡ read_at s at
-    going_last j l =
-        answer_is s at (whole (value + b * weight) (i + 1)) (g.same ∙ ap (carry value weight i) (head ∙ groups_last i b (drop (suc place) s) j l))
+    pub going_bad : {w : ℕ} → byte_test i b ≡ Against w → groups 0 rest ≡ faulty w
+    going_bad j = g.same ∙ ap (carry value weight i) (head ∙ groups_bad i b (drop (suc i) rest) j)
 
-    pub going_more : byte_test i b ≡ Fine → 128 ≤ b → b < 256 → Going s at (value + (b - 128) * weight) (weight * 128) (place + 1) (i + 1)
+    pub going_last : byte_test i b ≡ Fine → b < 128 → groups 0 rest ≡ whole (value + b * weight) (i + 1)
+    going_last j l = g.same ∙ ap (carry value weight i) (head ∙ groups_last i b (drop (suc i) rest) j l)
+
+    pub going_more : byte_test i b ≡ Fine → 128 ≤ b → b < 256 → Going rest (value + (b - 128) * weight) (weight * 128) (i + 1)
     going_more j l u =
         let n : i < 9 = fine_more i b j l in
         let q : (b - 128) * weight ≤ 127 * weight = mul-le-mul_right weight (omega arith) in
@@ -65,9 +64,9 @@ module _ {s : List ℕ} {at value weight place i : ℕ} (g : Going s at value we
           small = omega (arith, g.small);
           same =
               g.same
-              ∙ ap (carry value weight i) (head ∙ groups_more i b (drop (suc place) s) j l)
-              ∙ carry_more value weight i (b - 128) (groups (suc i) (drop (suc place) s))
-              ∙ rw (add-one place, add-one i);
+              ∙ ap (carry value weight i) (head ∙ groups_more i b (drop (suc i) rest) j l)
+              ∙ carry_more value weight i (b - 128) (groups (suc i) (drop (suc i) rest))
+              ∙ rw (add-one i);
         }
 
   -- the sums fit: a value with its last group is below 2 ^ 64, and one that goes on is below the next weight

@@ -7,9 +7,9 @@ use native.Mathlib.Nat.{pow-suc, pow-zero}
 use native.Mathlib.Omega.{arith}
 use lib.ListN.{length, drop}
 use lib.Seq.{drop-drop, get_or-drop}
-use Rattle.verdict.specs.declared.Verdict.TheVariants.{Fine}
-use Rattle.numbers.specs.declared.Number.TheVariants.{Value, Fault}
+use Rattle.verdict.specs.Verdict.Verdict.{Fine}
 use Rattle.numbers.specs.Numbers.{encode_in, encode, byte_test, Form, whole, faulty, more, groups, placed, number_at, AreBytes}
+use Rattle.numbers.specs.Numbers.Number.{Value, Fault}
 use Rattle.numbers.proofs.Groups.{faulty_whole, fine_zero, fine_tenth, fine_when, groups_none, groups_last, groups_more, groups_cases, encode_last, encode_more}
 
 pow_pos : (m : ℕ) → 0 < 128 ^ m

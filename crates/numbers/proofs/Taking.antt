@@ -1,17 +1,21 @@
 -- What the reader answers: it is what stands at the place, with how many bytes it took instead of the place after it.
-use Prim.Native.Nat.{ℕ, ◌+◌, ◌<◌}
+use Prim.Native.Nat.{ℕ, ◌+◌, ◌^◌, ◌<◌, ◌≤◌}
 use mathlib.Core.List.{List}
 use mathlib.Core.Logic.{◌↔◌}
 use mathlib.Core.Path.{◌≡◌, refl, sym, ap, ◌∙◌}
 use native.Mathlib.Omega.{arith}
 use lib.ListN.{length, drop, length-append, length-drop}
-use Rattle.verdict.specs.declared.Verdict.{Verdict}
-use Rattle.numbers.specs.declared.Number.{Number}
-use Rattle.numbers.specs.declared.Number.TheVariants.{Value, Fault}
-use Rattle.numbers.specs.declared.NumberRead.{NumberRead}
-use Rattle.numbers.specs.declared.NumberRead.TheVariants.{Done, Refused}
-use Rattle.numbers.specs.Numbers.{encode, Form, whole, faulty, groups, placed, number_at, answered, read_at, AreBytes, Took}
+use Rattle.std.specs.Prelude.{Result, Ok, Err}
+use Rattle.verdict.specs.declared.Refusal.{Refusal}
+use Rattle.verdict.specs.declared.Fault.{Fault as FaultAt}
+use Rattle.verdict.specs.Verdict.{Verdict}
+use Rattle.verdict.specs.Verdict.Verdict.{Fine, Against}
+use Rattle.verdict.specs.Refusals.{number, said}
+use Rattle.numbers.specs.Numbers.{Number, NumberRead, encode, Form, whole, faulty, groups, placed, number_at, answered, read_at, AreBytes, Took}
+use Rattle.numbers.specs.Numbers.Number.{Value, Fault}
+use Rattle.numbers.specs.Numbers.NumberRead.{Done, Refused}
 use Rattle.numbers.specs.Format.{held_to, ruled}
+use Rattle.numbers.specs.Told.{HoldsTo}
 use Rattle.numbers.proofs.Groups.{encode_some}
 use Rattle.numbers.proofs.RoundTrip.{Found, fault_value, write_after_read}
 use Rattle.numbers.proofs.TenBytes.{encode_ten}
@@ -77,6 +81,15 @@ took s at v n are h =
       within = omega (arith, ap length f.bytes, length-append (encode v) (drop (at + n) s), length-drop at s, length-drop (at + n) s);
     }
 
+module _ (s : List ℕ) (at : ℕ) {v n : ℕ} (are : AreBytes s) (h : Done v n ≡ read_at s at) where
+  -- the place after it is one of the data, or its end
+  pub took_within : at + n ≤ length s
+  took_within = (took s at v n are (sym h)).within
+
+  -- and the value is a 64-bit number
+  small : v < 2 ^ 64
+  small = (write_after_read s at v (at + n) are (done_on s at refl (sym h))).small
+
 -- ---- a number read and then held to a test
 
 module _ (test : ℕ → Verdict) (s : List ℕ) (at : ℕ) {r : NumberRead} (e : r ≡ read_at s at) where
@@ -85,3 +98,19 @@ module _ (test : ℕ → Verdict) (s : List ℕ) (at : ℕ) {r : NumberRead} (e 
 
   pub refused_held : {w p : ℕ} → r ≡ Refused w p → Fault w p ≡ held_to test at (number_at s at)
   refused_held q = ap (held_to test at) (sym (refused_on s at e q))
+
+-- what the code answers of it: the fault of its form, the refusal of the test at its first byte, or the number
+module _ (Tells : ℕ → Result (Unit {0}) Refusal → Type 0) (s : List ℕ) (at : ℕ) where
+  pub held_fault : {f : FaultAt} → Refused (number f.why) f.place ≡ read_at s at → HoldsTo Tells s at (Err f)
+  held_fault h = record { held = λ test tells. refused_held test s at h refl }
+
+  module _ {v n : ℕ} (are : AreBytes s) (h : Done v n ≡ read_at s at) (r : Result (Unit {0}) Refusal) (told : Tells v r) where
+    says : (test : ℕ → Verdict) → ((u : ℕ) (q : Result (Unit {0}) Refusal) → u < 2 ^ 64 → Tells u q → said q ≡ test u) → {w : Verdict} → said r ≡ w
+        → ruled w at v (at + n) ≡ held_to test at (number_at s at)
+    says test tells e = ap (λ (u : Verdict). ruled u at v (at + n)) (sym e ∙ tells v r (small s at are h) told) ∙ done_held test s at h refl
+
+    pub held_against : {f : FaultAt} → (said r ≡ Against (number f.why)) × (f.place ≡ at) → HoldsTo Tells s at (Err f)
+    held_against (e, p) = record { held = λ test tells. rw p (says test tells e) }
+
+    pub held_value : said r ≡ Fine → HoldsTo Tells s at (Ok (record { value = v; next = at + n }))
+    held_value e = record { held = λ test tells. says test tells e }

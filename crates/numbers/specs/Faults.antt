@@ -11,10 +11,10 @@
 --   StoppedBy s w place f   why reading a format stops at a place, with the refusal w
 --   Stops f s at w place    reading from a place on stops there, and all numbers before it are right (`first_fault`)
 use Rattle.std.specs.Prelude.{ℕ, ◌+◌, ◌*◌, ◌%◌, ◌^◌, ◌<◌, ◌≤◌, List, [], ◌∷◌, ◌++◌, ◌≡◌, length, drop, get_or}
-use Rattle.verdict.specs.declared.Verdict.{Verdict}
-use Rattle.verdict.specs.declared.Verdict.TheVariants.{Fine, Against}
-use Rattle.numbers.specs.declared.Number.TheVariants.{Value, Fault}
+use Rattle.verdict.specs.Verdict.{Verdict}
+use Rattle.verdict.specs.Verdict.Verdict.{Fine, Against}
 use Rattle.numbers.specs.Numbers.{number_at}
+use Rattle.numbers.specs.Numbers.Number.{Value, Fault}
 use Rattle.numbers.specs.Format.{Format, ended, item, gate, encode_all}
 
 -- fewer than ten bytes are left, from byte number i on, and each says that another follows

@@ -7,11 +7,10 @@
 --   Fits f vs           the numbers are what the format asks for
 -- A file is accepted exactly where it is `encode_all vs` of numbers that fit: `file_read_after_write`, `file_write_after_read`.
 use Rattle.std.specs.Prelude.{ℕ, zero, suc, ◌^◌, ◌<◌, cond, List, [], ◌∷◌, ◌++◌, ◌≡◌, ltb, length}
-use Rattle.verdict.specs.declared.Verdict.{Verdict}
-use Rattle.verdict.specs.declared.Verdict.TheVariants.{Fine, Against}
-use Rattle.numbers.specs.declared.Number.{Number}
-use Rattle.numbers.specs.declared.Number.TheVariants.{Value, Fault}
-use Rattle.numbers.specs.Numbers.{encode, number_at}
+use Rattle.verdict.specs.Verdict.{Verdict}
+use Rattle.verdict.specs.Verdict.Verdict.{Fine, Against}
+use Rattle.numbers.specs.Numbers.{Number, encode, number_at}
+use Rattle.numbers.specs.Numbers.Number.{Value, Fault}
 
 -- nothing more; a number held to a test, and what follows it; a verdict given here, before the next number is looked at
 pub data Format : Type 0 where

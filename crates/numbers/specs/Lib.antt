@@ -1,4 +1,5 @@
--- One number in seven-bit groups, files of such numbers, and where reading them stops.
+-- One number in seven-bit groups, files of such numbers, where reading them stops, and what the code answers.
 pub mod Numbers
 pub mod Format
 pub mod Faults
+pub mod Told

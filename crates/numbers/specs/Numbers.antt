@@ -9,13 +9,9 @@
 --   AreBytes bytes     each of them is a byte
 --   Took bytes at v n  the value v took n bytes at a place, which are its one form (`took`)
 use Rattle.std.specs.Prelude.{ℕ, zero, suc, ◌+◌, ◌*◌, ◌-◌, ◌/◌, ◌%◌, ◌<◌, ◌≤◌, cond, not, ◌||◌, List, [], ◌∷◌, ◌++◌, ◌≡◌, ltb, eqb, length, drop, get_or}
-use Rattle.verdict.specs.declared.Verdict.{Verdict}
-use Rattle.verdict.specs.declared.Verdict.TheVariants.{Fine, Against}
+use Rattle.verdict.specs.Verdict.{Verdict}
+use Rattle.verdict.specs.Verdict.Verdict.{Fine, Against}
 use Rattle.verdict.specs.Tests.{need, in_order}
-use Rattle.numbers.specs.declared.Number.{Number}
-use Rattle.numbers.specs.declared.Number.TheVariants.{Value, Fault}
-use Rattle.numbers.specs.declared.NumberRead.{NumberRead}
-use Rattle.numbers.specs.declared.NumberRead.TheVariants.{Done, Refused}
 
 -- groups of seven bits, lowest group first; bit 7 of a byte is set when another group follows
 unfoldable pub encode_in : ℕ → ℕ → List ℕ
@@ -49,6 +45,11 @@ unfoldable pub groups : ℕ → List ℕ → Form
 groups i [] = faulty 20
 groups i (b ∷ bs) = unless_faulty (byte_test i b) (cond (ltb b 128) (whole b 1) (more (b - 128) (groups (suc i) bs)))
 
+-- a value and the place after it, or a fault's number and place
+pub data Number : Type 0 where
+  Value : ℕ → ℕ → Number
+  Fault : ℕ → ℕ → Number
+
 abbrev pub placed : ℕ → Form → Number
 placed at (whole v n) = Value v (at + n)
 placed at (faulty w) = Fault w at
@@ -56,6 +57,11 @@ placed at (faulty w) = Fault w at
 -- the value and the place after it; or the fault, whose place is the first byte of the number, for CUT likewise
 unfoldable pub number_at : List ℕ → ℕ → Number
 number_at bytes at = placed at (groups 0 (drop at bytes))
+
+-- a value and how many bytes it took, or a fault's number and place
+pub data NumberRead : Type 0 where
+  Done : ℕ → ℕ → NumberRead
+  Refused : ℕ → ℕ → NumberRead
 
 abbrev pub answered : ℕ → Form → NumberRead
 answered at (whole v n) = Done v n

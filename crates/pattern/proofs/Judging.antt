@@ -6,8 +6,8 @@ use mathlib.Core.List.{List, [], ◌∷◌, Memᴰ}
 use Prim.Native.Nat.{ℕ, ◌<◌}
 use native.Mathlib.Omega.{arith}
 use borrow.Author.Tests.{ltb-true, lt-ltb}
-use Rattle.verdict.specs.declared.Verdict.{Verdict}
-use Rattle.verdict.specs.declared.Verdict.TheVariants.{Fine, Against}
+use Rattle.verdict.specs.Verdict.{Verdict}
+use Rattle.verdict.specs.Verdict.Verdict.{Fine, Against}
 use Rattle.verdict.specs.Tests.{each, Among}
 use Rattle.verdict.specs.Lines.{GoesBy}
 use Rattle.verdict.specs.Lines.Lines.{none, line}
@@ -19,8 +19,8 @@ use Rattle.pattern.specs.Pattern.{Pattern}
 use Rattle.pattern.specs.Refusals.{shape_lines}
 use Rattle.pattern.specs.Language.{accepts, Over}
 use Rattle.pattern.specs.Judge.{letter_test, judge_test, by_language, or_refused, judged, number_of, Judgeable, judge_lines, HonestJudge}
-use Rattle.pattern.specs.declared.Judged.{Judged}
-use Rattle.pattern.specs.declared.Judged.TheVariants.{Refused}
+use Rattle.pattern.specs.Judge.{Judged}
+use Rattle.pattern.specs.Judge.Judged.{Refused}
 use Rattle.pattern.proofs.Validity.{set_fine, pattern_valid}
 use Rattle.pattern.proofs.Refusals.{set_line, pattern_lines_lem}
 use Rattle.pattern.proofs.Words.{over_from, over_at}

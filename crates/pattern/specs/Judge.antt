@@ -1,13 +1,15 @@
 -- One sequence judged from one given set: 3 ACCEPT or 4 REJECT by the language, or 10, 11, 12, 15.
 --   judge_test    what is refused, in the order 10, 11, 12, 15
---   judged        what judging answers
+--   judged        what judging answers; told: the same of the code's Result, which has `true` for ACCEPT
 --   number_of     the scope's number of an answer; IsRefused: it is a refusal
 --   Judgeable     a question that is not refused (`judge_fine`)
 --   judge_lines   the lines of the refusals: `judge_test` goes by them (`judge_lines_lem`)
 --   HonestJudge   what an answer means to a host that sees its number (`judge_honest`)
-use Rattle.std.specs.Prelude.{◌≡◌, ◌↔◌, Bool, true, false, List, [], ◌∷◌, ℕ, ◌≤◌, ltb}
-use Rattle.verdict.specs.declared.Verdict.{Verdict}
-use Rattle.verdict.specs.declared.Verdict.TheVariants.{Fine, Against}
+use Rattle.std.specs.Prelude.{◌≡◌, ◌↔◌, Bool, true, false, List, [], ◌∷◌, ℕ, ◌≤◌, ltb, Result, Ok, Err}
+use Rattle.verdict.specs.declared.Refusal.{Refusal}
+use Rattle.verdict.specs.Refusals.{number}
+use Rattle.verdict.specs.Verdict.{Verdict}
+use Rattle.verdict.specs.Verdict.Verdict.{Fine, Against}
 use Rattle.verdict.specs.Tests.{need, in_order, each}
 use Rattle.verdict.specs.Lines.{Lines, Applies}
 use Rattle.verdict.specs.Lines.Lines.{none, line}
@@ -16,8 +18,6 @@ use Rattle.pattern.specs.Pattern.{Pattern, Valid}
 use Rattle.pattern.specs.Tests.{pattern_test, set_test}
 use Rattle.pattern.specs.Refusals.{MasksGood, shape_lines}
 use Rattle.pattern.specs.Language.{accepts, Over}
-use Rattle.pattern.specs.declared.Judged.{Judged}
-use Rattle.pattern.specs.declared.Judged.TheVariants.{Accept, Reject, Refused}
 
 -- 15 BAD-LETTER: the letter is below k
 unfoldable pub letter_test : ℕ → ℕ → Verdict
@@ -26,6 +26,11 @@ letter_test k a = need (ltb a k) 15
 -- 10, 11, 12, 15
 unfoldable pub judge_test : Pattern → ℕ → List ℕ → Verdict
 judge_test P set sequence = in_order (pattern_test P ∷ set_test P.states set ∷ each (letter_test P.letters) sequence ∷ [])
+
+pub data Judged : Type 0 where
+  Accept : Judged
+  Reject : Judged
+  Refused : ℕ → Judged
 
 abbrev pub by_language : Bool → Judged
 by_language true = Accept
@@ -38,6 +43,10 @@ or_refused (Against w) j = Refused w
 -- what judging answers
 unfoldable pub judged : Pattern → ℕ → List ℕ → Judged
 judged P set sequence = or_refused (judge_test P set sequence) (by_language (accepts P set sequence))
+
+abbrev pub told : Result Bool Refusal → Judged
+told (Ok accepted) = by_language accepted
+told (Err why) = Refused (number why)
 
 -- ---- what the answers mean
 

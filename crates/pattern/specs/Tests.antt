@@ -1,6 +1,6 @@
 -- The tests of a pattern, each with the scope's number (§7). A call makes them in the order 10, 11, .., 12, with its own tests between.
 use Rattle.std.specs.Prelude.{◌&&◌, [], ◌∷◌, ℕ, ◌*◌, ◌^◌, length, leb, ltb, eqb}
-use Rattle.verdict.specs.declared.Verdict.{Verdict}
+use Rattle.verdict.specs.Verdict.{Verdict}
 use Rattle.verdict.specs.Tests.{need, in_order, each}
 use Rattle.pattern.specs.Pattern.{Pattern}
 

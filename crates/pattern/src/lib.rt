@@ -1,213 +1,176 @@
 // Patterns: their tests, their successor sets, and the judging of one sequence.
 #![tactic(auto)]
 
-ghost use Rattle.std.specs.Prelude.{◌≡◌, ℕ, ◌*◌, ◌≤◌, ◌<◌, length};
+ghost use Rattle.std.specs.Prelude.{◌≡◌, ◌*◌, ◌≤◌, ◌<◌, length};
 ghost use Rattle.verdict.specs.Tests.{each};
-ghost use Rattle.pattern.specs.Pattern.{Sized, pattern_of};
+ghost use Rattle.verdict.specs.Refusals.{said};
+ghost use Rattle.pattern.specs.Pattern.{Sized};
 ghost use Rattle.pattern.specs.Tests.{size_test, table_test, set_test, shape_test, masks_test, pattern_test};
-ghost use Rattle.pattern.specs.Language.{reach, Over};
-ghost use Rattle.pattern.specs.Language;
-ghost use Rattle.pattern.specs.Judge.{letter_test, judge_test, judged};
+ghost use Rattle.pattern.specs.Judge.{letter_test};
 
 use sets::States;
-use verdict::Verdict;
+use verdict::{Refusal, need};
 
 // The bits of a mask: from so many states on, every mask is a set of states.
 const MASK_BITS: usize = 64;
 
-// What judging a sequence answers.
-#[derive(Drop)]
-pub enum Judged {
-    Accept,
-    Reject,
-    Refused(u8),
+// A pattern as it is lent: its numbers, and the rows by state and letter.
+#[derive(Clone, Copy)]
+pub struct Pattern<'a> {
+    pub states: usize,
+    pub letters: usize,
+    pub finals: u64,
+    pub rows: &'a [u64],
+}
+
+// Two sets of states of one pattern, as they are lent.
+#[derive(Clone, Copy)]
+pub struct Question<'a> {
+    pub pattern: Pattern<'a>,
+    pub x: u64,
+    pub y: u64,
+}
+
+// A pattern of at most 64 states with a row for each state and letter, as every pattern is that `shape_test` lets through.
+#[derive(Clone, Copy)]
+pub struct Shaped<'a> {
+    pub pattern: Pattern<'a>,
+    ghost states_bound: { pattern.states ≤ 64 },
+    ghost rows_len: { length pattern.rows.now ≡ pattern.states * pattern.letters },
 }
 
 // BAD-SIZE: a number of states or letters.
-pub fn size_test(most: usize, v: usize) -> Verdict
-    ensures { result ≡ size_test most v }
+pub fn size_test(most: usize, v: usize) -> Result<(), Refusal>
+    ensures { said result ≡ size_test most v }
 {
-    if v < 1 {
-        return Verdict::Against(10);
-    }
-    verdict::need(v <= most, 10)
+    need((1..=most).contains(&v), Refusal::BadSize)
 }
 
 // BAD-TABLE: so many rows.
-fn table_test(states: usize, letters: usize, count: usize) -> Verdict
+fn table_test(states: usize, letters: usize, count: usize) -> Result<(), Refusal>
     requires { Sized states letters }
-    ensures { result ≡ table_test states letters count }
+    ensures { said result ≡ table_test states letters count }
 {
-    verdict::need(count == states * letters, 11)
+    need(count == states * letters, Refusal::BadTable)
 }
 
 // BAD-SET: one mask.
-pub fn set_test(states: usize, mask: u64) -> Verdict
-    ensures { result ≡ set_test states mask }
+pub fn set_test(states: usize, mask: u64) -> Result<(), Refusal>
+    ensures { said result ≡ set_test states mask }
 {
     if MASK_BITS <= states {
-        return Verdict::Fine;
+        return Ok(());
     }
-    verdict::need(mask >> states == 0, 12)
+    need(mask >> states == 0, Refusal::BadSet)
 }
 
 // BAD-SET: each mask of a list.
-pub fn sets_test(states: usize, masks: &[u64]) -> Verdict
-    ensures { result ≡ each (set_test states) masks.now }
+pub fn sets_test(states: usize, masks: &[u64]) -> Result<(), Refusal>
+    ensures { said result ≡ each (set_test states) masks.now }
 {
-    let mut i = 0;
-    while i < masks.len() {
-        let test = set_test(states, masks[i]);
-        let Verdict::Fine = test else {
-            return test;
-        };
-        i += 1;
-    }
-    Verdict::Fine
-}
-
-// BAD-SIZE and BAD-TABLE, which every call looks at first.
-pub fn shape_test(states: usize, letters: usize, rows: &[u64]) -> Verdict
-    ensures { (finals : ℕ) → result ≡ shape_test (pattern_of states letters finals rows.now) }
-{
-    let size = size_test(64, states);
-    let Verdict::Fine = size else {
-        return size;
-    };
-    let count = size_test(32, letters);
-    let Verdict::Fine = count else {
-        return count;
-    };
-    table_test(states, letters, rows.len())
-}
-
-// BAD-SET for the pattern's own masks.
-pub fn masks_test(states: usize, finals: u64, rows: &[u64]) -> Verdict
-    ensures { (letters : ℕ) → result ≡ masks_test (pattern_of states letters finals rows.now) }
-{
-    let test = set_test(states, finals);
-    let Verdict::Fine = test else {
-        return test;
-    };
-    sets_test(states, rows)
-}
-
-// Judges a pattern: what is against it, if anything.
-pub fn pattern_test(states: usize, letters: usize, finals: u64, rows: &[u64]) -> Verdict
-    ensures { result ≡ pattern_test (pattern_of states letters finals rows.now) }
-{
-    let shape = shape_test(states, letters, rows);
-    let Verdict::Fine = shape else {
-        return shape;
-    };
-    masks_test(states, finals, rows)
-}
-
-// The set that `letter` takes `set` to.
-pub fn next(states: usize, letters: usize, rows: &[u64], set: u64, letter: usize) -> u64
-    requires states_bound { states ≤ 64 }
-    requires rows_len { length rows.now ≡ states * letters }
-    requires letter_lt_letters { letter < letters }
-    ensures { (finals : ℕ) → result ≡ Language.next (pattern_of states letters finals rows.now) set letter }
-{
-    let none = States::empty();
-    let mut reached = none.mask;
-    let mut left = set;
-    while left != 0 {
-        let s = u64::trailing_zeros(left) as usize;
-        if s >= states {
-            return reached;
-        }
-        reached = reached | rows[s * letters + letter];
-        left = left & (left - 1);
-    }
-    reached
+    verdict::every(masks, |mask| set_test(states, mask))
 }
 
 // BAD-LETTER: one letter.
-fn letter_test(letters: usize, letter: u8) -> Verdict
-    ensures { result ≡ letter_test letters letter }
+fn letter_test(letters: usize, letter: u8) -> Result<(), Refusal>
+    ensures { said result ≡ letter_test letters letter }
 {
-    verdict::need(wide(letter) < letters, 15)
+    need(usize::from(letter) < letters, Refusal::BadLetter)
 }
 
 // BAD-LETTER: each letter of a sequence.
-fn letters_test(letters: usize, sequence: &[u8]) -> Verdict
-    ensures { result ≡ each (letter_test letters) sequence.now }
+fn letters_test(letters: usize, sequence: &[u8]) -> Result<(), Refusal>
+    ensures { said result ≡ each (letter_test letters) sequence.now }
 {
-    let mut i = 0;
-    while i < sequence.len() {
-        let test = letter_test(letters, sequence[i]);
-        let Verdict::Fine = test else {
-            return test;
-        };
-        i += 1;
-    }
-    Verdict::Fine
+    verdict::every(sequence, |letter| letter_test(letters, letter))
 }
 
-fn wide(x: u8) -> usize
-    ensures { result ≡ x }
-{
-    x as usize
+impl Pattern<'_> {
+    ghost use Rattle.pattern.specs.Lent.{pattern_in};
+    ghost use Rattle.pattern.specs.Judge.{judge_test, judged, told};
+
+    // BAD-SIZE and BAD-TABLE, which every call looks at first.
+    pub fn shape_test(&self) -> Result<(), Refusal>
+        ensures { said result ≡ shape_test (pattern_in self.now) }
+    {
+        size_test(64, self.states)?;
+        size_test(32, self.letters)?;
+        table_test(self.states, self.letters, self.rows.len())
+    }
+
+    // BAD-SET for the pattern's own masks.
+    pub fn masks_test(&self) -> Result<(), Refusal>
+        ensures { said result ≡ masks_test (pattern_in self.now) }
+    {
+        set_test(self.states, self.finals)?;
+        sets_test(self.states, self.rows)
+    }
+
+    // Judges a pattern: what is against it, if anything.
+    pub fn pattern_test(&self) -> Result<(), Refusal>
+        ensures { said result ≡ pattern_test (pattern_in self.now) }
+    {
+        self.shape_test()?;
+        self.masks_test()
+    }
+
+    // The tests of `judge`, in the scope's order.
+    fn judge_test(&self, set: u64, sequence: &[u8]) -> Result<(), Refusal>
+        ensures { said result ≡ judge_test (pattern_in self.now) set sequence.now }
+    {
+        self.pattern_test()?;
+        set_test(self.states, set)?;
+        letters_test(self.letters, sequence)
+    }
+
+    // Judges one sequence from one set: whether it is accepted.
+    pub fn judge(&self, set: u64, sequence: &[u8]) -> Result<bool, Refusal>
+        ensures { told result ≡ judged (pattern_in self.now) set sequence.now }
+    {
+        self.judge_test(set, sequence)?;
+        let end = Shaped { pattern: *self }.reached(set, sequence);
+        Ok(sets::meets(end, self.finals))
+    }
 }
 
-// The tests of `judge`, in the scope's order.
-fn judge_test(
-    states: usize,
-    letters: usize,
-    finals: u64,
-    rows: &[u64],
-    set: u64,
-    sequence: &[u8],
-) -> Verdict
-    ensures { result ≡ judge_test (pattern_of states letters finals rows.now) set sequence.now }
-{
-    let pattern = pattern_test(states, letters, finals, rows);
-    let Verdict::Fine = pattern else {
-        return pattern;
-    };
-    let test = set_test(states, set);
-    let Verdict::Fine = test else {
-        return test;
-    };
-    letters_test(letters, sequence)
-}
+impl Shaped<'_> {
+    ghost use Rattle.pattern.specs.Language.{reach, Over};
+    ghost use Rattle.pattern.specs.Language;
+    ghost use Rattle.pattern.specs.Lent.{pattern_in};
 
-// The set that a sequence leads to.
-fn reached(states: usize, letters: usize, rows: &[u64], set: u64, sequence: &[u8]) -> u64
-    requires states_bound { states ≤ 64 }
-    requires rows_len { length rows.now ≡ states * letters }
-    requires over { Over letters sequence.now }
-    ensures { (finals : ℕ) → result ≡ reach (pattern_of states letters finals rows.now) set sequence.now }
-{
-    let mut at = set;
-    let mut read = 0;
-    while read < sequence.len() {
-        at = next(states, letters, rows, at, wide(sequence[read]));
-        read += 1;
+    // The set that `letter` takes `set` to. By `while` over the states that are left: a `for` would look at the others too.
+    pub fn next(&self, set: u64, letter: usize) -> u64
+        requires { letter < self.now.pattern.letters }
+        ensures { result ≡ Language.next (pattern_in self.now.pattern) set letter }
+    {
+        let Pattern {
+            states,
+            letters,
+            rows,
+            ..
+        } = self.pattern;
+        let mut reached = States::empty().mask;
+        let mut left = set;
+        while left != 0 {
+            let s = left.trailing_zeros() as usize;
+            if s >= states {
+                return reached;
+            }
+            reached |= rows[s * letters + letter];
+            left &= left - 1;
+        }
+        reached
     }
-    at
-}
 
-// Judges one sequence from one set.
-pub fn judge(
-    states: usize,
-    letters: usize,
-    finals: u64,
-    rows: &[u64],
-    set: u64,
-    sequence: &[u8],
-) -> Judged
-    ensures { result ≡ judged (pattern_of states letters finals rows.now) set sequence.now }
-{
-    let test = judge_test(states, letters, finals, rows, set, sequence);
-    if let Verdict::Against(number) = test {
-        return Judged::Refused(number);
+    // The set that a sequence leads to.
+    fn reached(&self, set: u64, sequence: &[u8]) -> u64
+        requires { Over self.now.pattern.letters sequence.now }
+        ensures { result ≡ reach (pattern_in self.now.pattern) set sequence.now }
+    {
+        let mut at = set;
+        for letter in sequence {
+            at = self.next(at, usize::from(*letter));
+        }
+        at
     }
-    let end = reached(states, letters, rows, set, sequence);
-    if sets::meets(end, finals) {
-        return Judged::Accept;
-    }
-    Judged::Reject
 }

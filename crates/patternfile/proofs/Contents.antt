@@ -7,8 +7,8 @@ use native.Mathlib.Omega.{arith}
 use lib.ListN.{length, take, drop, get_or, take-append-drop}
 use lib.Pow.{pow_mono}
 use lib.Seq.{take_at, drop_at, drop-append_seam, length-take-le}
-use Rattle.verdict.specs.declared.Verdict.{Verdict}
-use Rattle.verdict.specs.declared.Verdict.TheVariants.{Fine}
+use Rattle.verdict.specs.Verdict.{Verdict}
+use Rattle.verdict.specs.Verdict.Verdict.{Fine}
 use Rattle.sets.specs.Sets.{Good}
 use Rattle.pattern.specs.Pattern.{Pattern, Valid, pattern_of}
 use Rattle.pattern.specs.Tests.{size_test, set_test, space_test}
@@ -201,13 +201,13 @@ pattern_followed room more =
 
 module _ (room : ℕ) (more : ℕ → Format) (s : List ℕ) where
   -- behind the pattern's numbers reading goes on with what follows
-  pub part_then : {P : Pattern} {x y end : ℕ} → PartOf room s P x y end → Reached (pattern_then room more) s (numbers_of P x y) (more P.states) end
+  pub part_then : {P : Pattern} {x y end : ℕ} → PartOf room s P x y end → Reached (pattern_then room more) s 0 (numbers_of P x y) (more P.states) end
   unfolding first
-  part_then f = rw (pattern_followed room more) (reached_part (pattern_format room) (λ us. more (first us)) s f.read)
+  part_then f = rw (pattern_followed room more) (reached_part (pattern_format room) (λ us. more (first us)) s 0 f.read)
 
   -- what is refused of them is refused of the whole
   pub part_stopped : {w place : ℕ} → reading (pattern_format room) s 0 ≡ refused w place → reading (pattern_then room more) s 0 ≡ refused w place
-  part_stopped q = rw (pattern_followed room more) (stopped_part (pattern_format room) (λ us. more (first us)) s q)
+  part_stopped q = rw (pattern_followed room more) (stopped_part (pattern_format room) (λ us. more (first us)) s 0 q)
 
 -- numbers that fit the whole fit by their parts
 pub record FitsPart (room : ℕ) (P : Pattern) (x y : ℕ) (g : Format) (us : List ℕ) : Type 0 where

@@ -1,27 +1,27 @@
 -- The second pass: the numbers that the first pass judged go into the rows.
 use Prim.Native.Nat.{ℕ, ◌+◌, ◌*◌, ◌-◌, ◌<◌, ◌≤◌}
-use mathlib.Core.List.{List, [], ◌∷◌}
-use mathlib.Core.Path.{◌≡◌, refl, sym, ap, ◌∙◌, subst}
+use mathlib.Core.List.{List, [], ◌∷◌, ◌++◌, append-nil}
+use mathlib.Core.Path.{◌≡◌, refl, sym, ap, ◌∙◌}
 use native.Mathlib.Omega.{arith}
-use lib.ListN.{length, set, length-set}
-use Rattle.verdict.specs.declared.Verdict.{Verdict}
-use Rattle.verdict.specs.declared.Verdict.TheVariants.{Fine, Against}
+use lib.ListN.{length, take, drop, set, length-set, drop_of_length-le}
+use lib.Seq.{length-take-le}
+use Rattle.std.specs.Prelude.{Ok}
+use Rattle.verdict.specs.Verdict.{Verdict}
+use Rattle.verdict.specs.Verdict.Verdict.{Fine, Against}
+use Rattle.lent.specs.Lent.{lay}
 use Rattle.lent.proofs.Putting.{put_one, put_laid, Left, left_first, left_step, left_done}
-use Rattle.pattern.specs.Pattern.{Sized, pattern_of}
+use Rattle.pattern.specs.Pattern.{Sized}
 use Rattle.pattern.specs.Tests.{set_test}
-use Rattle.numbers.specs.declared.Number.{Number}
-use Rattle.numbers.specs.declared.Number.TheVariants.{Value, Fault}
-use Rattle.numbers.specs.Numbers.{encode, number_at, AreBytes}
+use Rattle.numbers.specs.Numbers.{Number, encode, number_at, AreBytes}
+use Rattle.numbers.specs.Numbers.Number.{Value, Fault}
 use Rattle.numbers.specs.Format.{Format, ended, item, many, Reading, got, refused, held_to, or_refused, before, reading, encode_all, ruled}
 use Rattle.numbers.proofs.Formats.{refused_got, file_write_after_read}
 use Rattle.numbers.proofs.Parts.{many_none, many_more, many_length, reading_ended}
 use Rattle.numbers.proofs.Steps.{file_stopped, file_tail, file_whole}
-use Rattle.patternfile.specs.declared.PatternRead.TheVariants.{Done, Refused}
 use Rattle.patternfile.specs.declared.PatternPart.{PatternPart}
-use Rattle.patternfile.specs.declared.PatternPart.TheVariants.{Whole, Stopped}
 use Rattle.patternfile.specs.PatternFile.{numbers_of, pattern_format}
-use Rattle.patternfile.specs.Reader.{Reads}
-use Rattle.patternfile.specs.Parts.{PartOf, Judges, Filled}
+use Rattle.patternfile.specs.Reader.{ReadDone, ReadRefused, with_rows}
+use Rattle.patternfile.specs.Parts.{Judges, Filled}
 use Rattle.patternfile.proofs.Contents.{part_valid, rows_stand}
 
 -- ---- reading that went well, number by number
@@ -83,24 +83,24 @@ module _ {s : List ℕ} {at count : ℕ} {old rows : List ℕ} {i place : ℕ} (
       let p : 0 < count - i = omega arith in
       sym (ap (λ (f : Format). reading f s place) (many_more (count - i) test ended p)) ∙ q
 
-  pub filling_stopped : {x : Number} {w p : ℕ} → i < count → x ≡ number_at s place → x ≡ Fault w p → Filled s at count old rows
-  filling_stopped h e q =
+  pub filling_stopped : {w p : ℕ} → i < count → number_at s place ≡ Fault w p → Filled s at count old rows
+  filling_stopped h e =
       record {
         filled = λ test vs next r.
             let l : Remaining s old rows test vs next (count - i) i place = g.left test vs next r in
-            absurd (item_fault test (λ v. many (count - i - 1) test ended) s place l.us next (sym e ∙ q) (some_left h test l.us next l.stand));
+            absurd (item_fault test (λ v. many (count - i - 1) test ended) s place l.us next e (some_left h test l.us next l.stand));
       }
 
-  stepped : {x : Number} {v to : ℕ} → i < count → i < length rows → x ≡ number_at s place → x ≡ Value v to → (test : ℕ → Verdict) (vs : List ℕ) (next : ℕ)
+  stepped : {v to : ℕ} → i < count → i < length rows → number_at s place ≡ Value v to → (test : ℕ → Verdict) (vs : List ℕ) (next : ℕ)
       → Remaining s old rows test vs next (count - i) i place → Remaining s old (set rows i v) test vs next (count - (i + 1)) (i + 1) to
-  stepped {v} {to} h m e q test vs next l =
+  stepped {v} {to} h m e test vs next l =
       let n : count - (i + 1) ≡ count - i - 1 = omega arith in
       let r : First (λ v. many (count - i - 1) test ended) s l.us next v to =
-      item_first test (λ v. many (count - i - 1) test ended) s place l.us next v to (sym e ∙ q) (some_left h test l.us next l.stand) in
+      item_first test (λ v. many (count - i - 1) test ended) s place l.us next v to e (some_left h test l.us next l.stand) in
       record { us = r.ws; stand = rw n r.read; laying = left_step r.ws l.laying r.are (put_one rows i v m) }
 
-  pub filling_step : {x : Number} {v to : ℕ} → i < count → i < length rows → x ≡ number_at s place → x ≡ Value v to → Filling s at count old (set rows i v) (i + 1) to
-  filling_step {v} {to} h m e q = record { long = length-set rows i v ∙ g.long; left = λ test vs next r. stepped h m e q test vs next (g.left test vs next r) }
+  pub filling_step : {v to : ℕ} → i < count → i < length rows → number_at s place ≡ Value v to → Filling s at count old (set rows i v) (i + 1) to
+  filling_step {v} {to} h m e = record { long = length-set rows i v ∙ g.long; left = λ test vs next r. stepped h m e test vs next (g.left test vs next r) }
 
   pub filling_done : count ≤ i → Filled s at count old rows
   filling_done h =
@@ -117,37 +117,53 @@ module _ {s : List ℕ} {at count : ℕ} {old rows : List ℕ} {i place : ℕ} (
             put_laid (left_done l.laying e);
       }
 
+lay_front : (vs old : List ℕ) → length vs ≤ length old → lay vs (take (length vs) old) ++ drop (length vs) old ≡ lay vs old
+unfolding lay
+lay_front vs old h =
+    let k = length-take-le (length vs) old h in
+    ap (λ (l : List ℕ). vs ++ l ++ drop (length vs) old) (drop_of_length-le (take (length vs) old) (omega arith))
+    ∙ ap (λ (l : List ℕ). l ++ drop (length vs) old) (append-nil vs)
+
+-- numbers that fill the front of a buffer lie over the whole of it
+pub filled_front : {s : List ℕ} {at count : ℕ} {old new : List ℕ} → count ≤ length old → Filled s at count (take count old) new → Filled s at count old (new ++ drop count old)
+filled_front {s} {at} {count} {old} {new} h f =
+    record {
+      filled = λ test vs next r.
+          let l : length vs ≡ count = many_length count test s at vs next r in
+          ap (λ (l : List ℕ). l ++ drop count old) (f.filled test vs next r)
+          ∙ ap (λ (n : ℕ). lay vs (take n old) ++ drop n old) (sym l)
+          ∙ lay_front vs old (omega arith);
+    }
+
 -- ---- the whole reader
 
-module _ (s old : List ℕ) {r : PatternPart} (j : Judges s (length old) r) where
-  pub reads_stopped : {w place : ℕ} → r ≡ Stopped w place → Reads s old (Refused w place) old
-  reads_stopped q = record { fault = file_stopped (pattern_format (length old)) s (subst (Judges s (length old)) q j); unchanged = refl }
+module _ (s old : List ℕ) where
+  pub reads_stopped : {w place : ℕ} → reading (pattern_format (length old)) s 0 ≡ refused w place → ReadRefused s old w place old
+  reads_stopped q = record { fault = file_stopped (pattern_format (length old)) s q; unchanged = refl }
 
-  module _ {n k finals x y end : ℕ} (q : r ≡ Whole n k finals x y end) where
-    found : (rows : List ℕ) × PartOf (length old) s (pattern_of n k finals rows) x y end
-    found = subst (Judges s (length old)) q j
-
-    pub reads_tail : end < length s → Reads s old (Refused 22 end) old
+  module _ (part : PatternPart) (found : Judges s (length old) (Ok part)) where
+    pub reads_tail : part.end < length s → ReadRefused s old 22 part.end old
     reads_tail h = record { fault = file_tail (pattern_format (length old)) s found.1.read h; unchanged = refl }
 
     module _ (are : AreBytes s) where
-      pub reads_sized : Sized n k
+      pub reads_sized : Sized part.numbers.states part.numbers.letters
       reads_sized = (part_valid are found.1).valid.sized
 
-      pub reads_room : n * k ≤ length old
+      pub reads_room : part.numbers.states * part.numbers.letters ≤ length old
       reads_room = (part_valid are found.1).enough
 
-      pub reads_done : {new : List ℕ} {at count : ℕ} → at ≡ 2 + length (encode finals) → count ≡ n * k → length s ≤ end → Filled s at count old new
-          → Reads s old (Done n k finals x y) new
-      reads_done e c h g =
-          let numbers = numbers_of (pattern_of n k finals found.0) x y in
+      pub reads_done : {new : List ℕ} {at : ℕ} → at ≡ 2 + length (encode part.numbers.finals) → length s ≤ part.end → Filled s at (part.numbers.states * part.numbers.letters) old new
+          → ReadDone s old part.numbers new
+      reads_done e h g =
+          let f = part.numbers in
+          let numbers = numbers_of (with_rows f found.0) f.x f.y in
           let whole = file_whole (pattern_format (length old)) s found.1.read h in
           record {
             rows = found.0;
             file =
                 record {
                   tabled = found.1.tabled;
-                  read = whole ∙ ap (got numbers) (file_write_after_read (pattern_format (length old)) s numbers end are whole).takes_all;
+                  read = whole ∙ ap (got numbers) (file_write_after_read (pattern_format (length old)) s numbers part.end are whole).takes_all;
                 };
-            written = g.filled (set_test n) found.0 (2 + length (encode finals) + length (encode_all found.0)) (rw (e, c) (rows_stand are found.1));
+            written = g.filled (set_test f.states) found.0 (2 + length (encode f.finals) + length (encode_all found.0)) (rw e (rows_stand are found.1));
           }

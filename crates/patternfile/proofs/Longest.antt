@@ -9,7 +9,7 @@ use Rattle.sets.specs.Sets.{Good}
 use Rattle.pattern.specs.Pattern.{Pattern, Valid, pattern_of}
 use Rattle.pattern.specs.Tests.{size_test, set_test, space_test}
 use Rattle.pattern.proofs.Validity.{size_fine}
-use Rattle.verdict.specs.declared.Verdict.TheVariants.{Fine}
+use Rattle.verdict.specs.Verdict.Verdict.{Fine}
 use Rattle.numbers.specs.Numbers.{encode, encode_in, number_at, AreBytes}
 use Rattle.numbers.specs.Format.{ended, item, many, unless_refused, reading, file_reading, encode_all, Fits}
 use Rattle.numbers.proofs.Groups.{one_byte}

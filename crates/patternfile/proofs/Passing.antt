@@ -1,47 +1,42 @@
--- The loop that judges so many numbers: what is still to be passed over decides for the whole.
-use Prim.Native.Nat.{ℕ, ◌-◌, ◌<◌, ◌≤◌}
-use mathlib.Core.List.{List}
-use mathlib.Core.Path.{◌≡◌, refl, sym, ap, ◌∙◌}
+-- The loop that passes over so many numbers: those of the earlier turns are read, and the others are still to be read.
+use Prim.Native.Nat.{ℕ, ◌+◌, ◌-◌, ◌<◌, ◌≤◌}
+use mathlib.Core.List.{List, []}
+use mathlib.Core.Path.{◌≡◌, ap, subst, ◌∙◌}
 use native.Mathlib.Omega.{arith}
-use Rattle.verdict.specs.declared.Verdict.{Verdict}
-use Rattle.numbers.specs.declared.Number.{Number}
-use Rattle.numbers.specs.declared.Number.TheVariants.{Value, Fault}
+use Rattle.std.specs.Prelude.{Ok}
+use Rattle.verdict.specs.Verdict.{Verdict}
 use Rattle.numbers.specs.Numbers.{number_at}
-use Rattle.numbers.specs.Format.{Format, ended, item, many, Reading, got, refused, before, held_to, reading}
-use Rattle.numbers.proofs.Parts.{many_none, many_more, reading_ended}
-use Rattle.numbers.proofs.Steps.{item_taken, item_stopped}
-use Rattle.patternfile.specs.Parts.{passed}
+use Rattle.numbers.specs.Numbers.Number.{Value, Fault}
+use Rattle.numbers.specs.Format.{Format, ended, item, many, refused, held_to, reading}
+use Rattle.numbers.proofs.Parts.{many_none, many_more}
+use Rattle.numbers.proofs.Steps.{Reached, reached_first, reached_item, reached_end, stopped_item}
+use Rattle.patternfile.specs.Parts.{Passes}
 
-pub record Passing (test : ℕ → Verdict) (s : List ℕ) (at count left place : ℕ) : Type 0 where
-  pub same : passed count (reading (many count test ended) s at) ≡ passed count (reading (many left test ended) s place)
+pub record Passing (test : ℕ → Verdict) (s : List ℕ) (at count i place : ℕ) : Type 0 where
+  pub vs : List ℕ
+  pub reached : Reached (many count test ended) s at vs (many (count - i) test ended) place
 
-passed_before : (count v : ℕ) (r : Reading) → passed count (before v r) ≡ passed count r
-passed_before count v (got vs n) = refl
-passed_before count v (refused w p) = refl
+pub passing_first : {test : ℕ → Verdict} {s : List ℕ} {at count : ℕ} → Passing test s at count 0 at
+passing_first {test} {s} {at} {count} =
+    let e : count ≡ count - 0 = omega arith in
+    record { vs = []; reached = subst (λ (n : ℕ). Reached (many count test ended) s at [] (many n test ended) at) e (reached_first (many count test ended) s at) }
 
-module _ {test : ℕ → Verdict} {s : List ℕ} {at count left place : ℕ} (g : Passing test s at count left place) where
-  first_of : 0 < left → passed count (reading (many left test ended) s place) ≡ passed count (reading (item test (λ v. many (left - 1) test ended)) s place)
-  first_of h = ap (λ (f : Format). passed count (reading f s place)) (many_more left test ended h)
+module _ {test : ℕ → Verdict} {s : List ℕ} {at count i place : ℕ} (g : Passing test s at count i place) where
+  -- one number at least is left
+  some_left : i < count → Reached (many count test ended) s at g.vs (item test (λ v. many (count - (i + 1)) test ended)) place
+  some_left h =
+      let e : count - i - 1 ≡ count - (i + 1) = omega arith in
+      subst (λ (f : Format). Reached (many count test ended) s at g.vs f place)
+      (many_more (count - i) test ended (omega arith) ∙ ap (λ (n : ℕ). item test (λ v. many n test ended)) e)
+      g.reached
 
-  pub passing_stopped : {x : Number} {w p : ℕ} → 0 < left → x ≡ held_to test place (number_at s place) → x ≡ Fault w p → x ≡ passed count (reading (many count test ended) s at)
-  passing_stopped h e q =
-      q ∙ sym (g.same ∙ first_of h ∙ ap (passed count) (item_stopped test (λ v. many (left - 1) test ended) s place (sym e ∙ q)))
+  pub passing_stopped : {w p : ℕ} → i < count → Fault w p ≡ held_to test place (number_at s place) → reading (many count test ended) s at ≡ refused w p
+  passing_stopped h e = stopped_item (some_left h) e
 
-  pub passing_step : {x : Number} {v next : ℕ} → 0 < left → x ≡ held_to test place (number_at s place) → x ≡ Value v next → Passing test s at count (left - 1) next
-  passing_step {v} {next} h e q =
-      record {
-        same =
-            g.same
-            ∙ first_of h
-            ∙ ap (passed count) (item_taken test (λ v. many (left - 1) test ended) s place (sym e ∙ q))
-            ∙ passed_before count v (reading (many (left - 1) test ended) s next);
-      }
+  pub passing_step : {v next : ℕ} → i < count → Value v next ≡ held_to test place (number_at s place) → Passing test s at count (i + 1) next
+  passing_step h e = record { vs = _; reached = reached_item (some_left h) e }
 
-  pub passing_done : left ≤ 0 → Value count place ≡ passed count (reading (many count test ended) s at)
+  pub passing_done : count ≤ i → Passes (reading (many count test ended) s at) (Ok place)
   passing_done h =
-      let z : left ≡ 0 = omega arith in
-      sym
-      (g.same
-      ∙ ap (λ (n : ℕ). passed count (reading (many n test ended) s place)) z
-      ∙ ap (λ (f : Format). passed count (reading f s place)) (many_none test ended)
-      ∙ ap (passed count) (reading_ended s place))
+      let e : count - i ≡ 0 = omega arith in
+      (g.vs, reached_end (subst (λ (f : Format). Reached (many count test ended) s at g.vs f place) (ap (λ (n : ℕ). many n test ended) e ∙ many_none test ended) g.reached))

@@ -10,25 +10,27 @@ use lib.Dec.{leb}
 use lib.ListN.{length, take, drop}
 use lib.Seq.{take_at}
 use borrow.Author.Tests.{leb-false}
-use Rattle.verdict.specs.declared.Verdict.TheVariants.{Fine, Against}
+use Rattle.std.specs.Prelude.{Result, Ok, Err}
+use Rattle.verdict.specs.declared.Fault.{Fault as FaultAt}
+use Rattle.verdict.specs.Verdict.Verdict.{Fine, Against}
+use Rattle.verdict.specs.Refusals.{number}
 use Rattle.verdict.proofs.Ordered.{apart, need_against}
 use Rattle.sets.specs.Sets.{Good}
 use Rattle.pattern.specs.Pattern.{pattern_of}
 use Rattle.pattern.specs.Tests.{size_test, set_test, space_test}
 use Rattle.pattern.proofs.Validity.{size_fine, set_fine}
-use Rattle.numbers.specs.declared.Number.TheVariants.{Value, Fault}
 use Rattle.numbers.specs.Numbers.{encode, number_at, AreBytes}
+use Rattle.numbers.specs.Numbers.Number.{Value, Fault}
 use Rattle.numbers.specs.Format.{Format, ended, item, refused, file_reading, encode_all, Fits}
 use Rattle.numbers.specs.Faults.{Padded, TooBig, After, here, taken, through, StoppedBy, by_form, by_range, by_gate, by_tail, Stops}
 use Rattle.numbers.proofs.Groups.{one_byte}
 use Rattle.numbers.proofs.RoundTrip.{read_after_write}
 use Rattle.numbers.proofs.Faults.{cut_exactly, padded_exactly, too_big_exactly, fault_is}
 use Rattle.numbers.proofs.Formats.{refused_got, file_read_after_write}
-use Rattle.numbers.proofs.Places.{first_fault, after_fits, AfterMany, among, behind, after_many}
-use Rattle.patternfile.specs.declared.PatternRead.{PatternRead}
-use Rattle.patternfile.specs.declared.PatternRead.TheVariants.{Done, Refused}
+use Rattle.numbers.proofs.Places.{first_fault, refused_is, after_fits, AfterMany, among, behind, after_many}
+use Rattle.patternfile.specs.declared.PatternNumbers.{PatternNumbers}
 use Rattle.patternfile.specs.PatternFile.{numbers_of, starts_then, sets_then, after_letters, pattern_then, pattern_format}
-use Rattle.patternfile.specs.Reader.{Reads}
+use Rattle.patternfile.specs.Reader.{Reads, number_of, values_of, IsRefused}
 use Rattle.patternfile.specs.Refusals.{RefusedAt, bad_states, bad_letters, no_room, bad_set, cut, padded, too_big, tail}
 
 -- ---- what each test refuses
@@ -175,8 +177,8 @@ refused_there {room} {s} {w} {place} are q =
     let f : Stops (pattern_format room) s 0 w place = (first_fault (pattern_format room) s w place are).0 q in
     in_states f.follows f.stopped (f.placed ∙ zero-add _) f.bytes
 
-pub refusal_place : {s old new : List ℕ} {w place : ℕ} → AreBytes s → Reads s old (Refused w place) new → RefusedAt (length old) s w place
-refusal_place are r = refused_there are r.fault
+pub refusal_place : {s old new : List ℕ} (f : FaultAt) → AreBytes s → Reads s old (Err f) new → RefusedAt (length old) s (number f.why) f.place
+refusal_place f are r = refused_there are r.fault
 
 -- by two of the numbers a host knows how the number there is badly written
 pub padded_there : {room : ℕ} {s : List ℕ} {w place : ℕ} → RefusedAt room s w place → w ≡ 21 → Padded 0 (drop place s)
@@ -200,16 +202,13 @@ too_big_there (padded h) e = absurd (omega arith)
 too_big_there (tail P x y l f) e = absurd (omega arith)
 
 -- and it is refused so exactly where reading stops there
-pub refusal_exactly : (s old : List ℕ) (r : PatternRead) (new : List ℕ) {w place : ℕ} → AreBytes s → Reads s old r new → (r ≡ Refused w place) ↔ Stops (pattern_format (length old)) s 0 w place
-refusal_exactly s old r new {w} {place} are h = (
-  λ q. (first_fault (pattern_format (length old)) s w place are).0 (subst (λ (z : PatternRead). Reads s old z new) q h).fault,
-  λ t. there r h ((first_fault (pattern_format (length old)) s w place are).1 t),
+pub refusal_exactly : (s old : List ℕ) (r : Result PatternNumbers FaultAt) (new : List ℕ) {w place : ℕ} → AreBytes s → Reads s old r new
+    → (IsRefused r × (number_of r ≡ w) × ((values_of r).place ≡ place)) ↔ Stops (pattern_format (length old)) s 0 w place
+refusal_exactly s old (Ok f) new {w} {place} are h = (
+  λ q. absurd q.0,
+  λ t. absurd (refused_got (sym ((first_fault (pattern_format (length old)) s w place are).1 t) ∙ h.file.read)),
 )
-  where
-    there : (r : PatternRead) → Reads s old r new → file_reading (pattern_format (length old)) s ≡ refused w place → r ≡ Refused w place
-    there (Done n k f x y) h e = absurd (refused_got (sym e ∙ h.file.read))
-    there (Refused w' place') h e =
-        let q : refused w' place' ≡ refused w place = sym h.fault ∙ e in
-        let i : w' ≡ w = cc in
-        let j : place' ≡ place = cc in
-        rw (i, j)
+refusal_exactly s old (Err f) new {w} {place} are h = (
+  λ q. (first_fault (pattern_format (length old)) s w place are).0 (h.fault ∙ rw (q.1, q.2)),
+  λ t. let (e, p) = refused_is (sym h.fault ∙ (first_fault (pattern_format (length old)) s w place are).1 t) in (tt, e, p),
+)

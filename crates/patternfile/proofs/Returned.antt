@@ -2,27 +2,25 @@
 use Prim.Native.Nat.{ℕ, ◌≤◌}
 use mathlib.Core.Bool.{false}
 use mathlib.Core.List.{List, Memᴰ}
-use mathlib.Core.Logic.{◌↔◌}
-use mathlib.Core.Path.{◌≡◌, refl, sym, ap, ◌∙◌, subst}
+use mathlib.Core.Path.{◌≡◌, refl, ap, ◌∙◌, subst}
 use native.Mathlib.Nat.{zero-add}
 use native.Mathlib.Omega.{arith}
 use lib.ListN.{length}
-use Rattle.verdict.specs.declared.Verdict.TheVariants.{Against}
+use Rattle.std.specs.Prelude.{Result, Ok, Err}
+use Rattle.verdict.specs.declared.Refusal.{Refusal}
+use Rattle.verdict.specs.declared.Fault.{Fault}
+use Rattle.verdict.specs.Verdict.Verdict.{Against}
+use Rattle.verdict.specs.Refusals.{number}
 use Rattle.verdict.specs.Tests.{need, Among}
 use Rattle.verdict.proofs.Ordered.{apart, one_number}
 use Rattle.verdict.proofs.Numbered.{among_need, among_from}
 use Rattle.lent.specs.Lent.{lay}
 use Rattle.lent.proofs.Putting.{put_laid}
-use Rattle.pattern.specs.Pattern.{Pattern, pattern_of}
+use Rattle.pattern.specs.Pattern.{Pattern}
 use Rattle.numbers.specs.Numbers.{AreBytes}
-use Rattle.numbers.specs.Faults.{Stops}
-use Rattle.patternfile.specs.declared.PatternRead.{PatternRead}
-use Rattle.patternfile.specs.declared.PatternRead.TheVariants as Read
-use Rattle.patternfile.specs.declared.Written.{Written}
-use Rattle.patternfile.specs.declared.Written.TheVariants as Write
-use Rattle.patternfile.specs.PatternFile.{pattern_format}
+use Rattle.patternfile.specs.declared.PatternNumbers.{PatternNumbers}
 use Rattle.patternfile.specs.Reader as Reader
-use Rattle.patternfile.specs.Reader.{Reads, FileOf}
+use Rattle.patternfile.specs.Reader.{Reads, FileOf, with_rows, found_in}
 use Rattle.patternfile.specs.Writer.{Writes, Allowed}
 use Rattle.patternfile.specs.Refusals.{RefusedAt, bad_states, bad_letters, no_room, bad_set, cut, padded, too_big, tail, read_numbers, write_numbers}
 use Rattle.patternfile.specs.Meaning.{Readable, values_at, HonestRead, HonestWrite}
@@ -45,33 +43,33 @@ refused_number (tail P x y l f) = Memᴰ.tail (Memᴰ.tail (Memᴰ.tail (Memᴰ.
 refused_number (too_big h) = Memᴰ.tail (Memᴰ.tail (Memᴰ.tail (Memᴰ.tail (Memᴰ.tail (Memᴰ.tail (Memᴰ.head refl))))))
 
 -- a refusal has one of the reader's numbers
-pub read_number : {s old new : List ℕ} {w place : ℕ} → AreBytes s → Reads s old (Read.Refused w place) new → Among read_numbers (Against w)
+pub read_number : {s old new : List ℕ} (f : Fault) → AreBytes s → Reads s old (Err f) new → Among read_numbers (Against (number f.why))
 unfolding need
-read_number {w = w} are h = among_need read_numbers false w (refused_number (refusal_place are h))
+read_number f are h = among_need read_numbers false (number f.why) (refused_number (refusal_place f are h))
 
 module _ (s old : List ℕ) (are : AreBytes s) where
-  high : (r : PatternRead) (new : List ℕ) → Reads s old r new → Reader.IsRefused r → 10 ≤ Reader.number_of r
-  high (Read.Refused w place) new h i = among_from 10 refl (read_number are h) refl
-  high (Read.Done n k f x y) new h i = elim i [ ]
+  high : (r : Result PatternNumbers Fault) (new : List ℕ) → Reads s old r new → Reader.IsRefused r → 10 ≤ Reader.number_of r
+  high (Err f) new h i = among_from 10 refl (read_number f are h) refl
+  high (Ok f) new h i = elim i [ ]
 
   -- a file gets DONE, with its values and rows
-  file_done : (r : PatternRead) (new : List ℕ) → Reads s old r new → (f : Readable (length old) s)
-      → (r ≡ Read.Done f.pattern.states f.pattern.letters f.pattern.finals f.x f.y) × (new ≡ lay f.pattern.rows old)
+  file_done : (r : Result PatternNumbers Fault) (new : List ℕ) → Reads s old r new → (f : Readable (length old) s)
+      → (r ≡ Ok (found_in f.pattern f.x f.y)) × (new ≡ lay f.pattern.rows old)
   file_done r new h f =
       let P = f.pattern in
       let whole : FileOf (length old) s P f.x f.y = rw f.file (file_of (length old) P f.x f.y f.valid f.good_x f.good_y f.enough) in
-      reader_determined s old r (Read.Done P.states P.letters P.finals f.x f.y) new (lay P.rows old) h
+      reader_determined s old r (Ok (found_in P f.x f.y)) new (lay P.rows old) h
       (record { rows = P.rows; file = record { tabled = whole.tabled; read = whole.read }; written = refl })
 
   -- and only a file does
-  done_file : (r : PatternRead) (new : List ℕ) → Reads s old r new → Reader.number_of r ≡ 7 → Readable (length old) s
-  done_file (Read.Refused w place) new h e = absurd (omega (arith, high (Read.Refused w place) new h tt))
-  done_file (Read.Done n k f x y) new d e =
-      let c : Contents (length old) (pattern_of n k f d.rows) x y = accepted_valid are d.file in
+  done_file : (r : Result PatternNumbers Fault) (new : List ℕ) → Reads s old r new → Reader.number_of r ≡ 7 → Readable (length old) s
+  done_file (Err f) new h e = absurd (omega (arith, high (Err f) new h tt))
+  done_file (Ok f) new d e =
+      let c : Contents (length old) (with_rows f d.rows) f.x f.y = accepted_valid are d.file in
       record {
-        pattern = pattern_of n k f d.rows;
-        x = x;
-        y = y;
+        pattern = with_rows f d.rows;
+        x = f.x;
+        y = f.y;
         valid = c.valid;
         good_x = c.good_x;
         good_y = c.good_y;
@@ -79,39 +77,27 @@ module _ (s old : List ℕ) (are : AreBytes s) where
         file = file_bytes_lem are d.file;
       }
 
-  no_file : (r : PatternRead) (new : List ℕ) → Reads s old r new → (Readable (length old) s → ⊥) → Reader.IsRefused r
-  no_file (Read.Refused w place) new h f = tt
-  no_file (Read.Done n k f x y) new h g = g (done_file (Read.Done n k f x y) new h refl)
+  no_file : (r : Result PatternNumbers Fault) (new : List ℕ) → Reads s old r new → (Readable (length old) s → ⊥) → Reader.IsRefused r
+  no_file (Err f) new h g = tt
+  no_file (Ok f) new h g = g (done_file (Ok f) new h refl)
 
-  by_place : (r : PatternRead) (new : List ℕ) → Reads s old r new → (w place : ℕ)
-      → (Reader.IsRefused r × (Reader.number_of r ≡ w) × ((Reader.values_of r).place ≡ place)) ↔ Stops (pattern_format (length old)) s 0 w place
-  by_place r new h w place = (to r h, λ t. told ((refusal_exactly s old r new are h).1 t))
-    where
-      to : (r : PatternRead) → Reads s old r new → Reader.IsRefused r × (Reader.number_of r ≡ w) × ((Reader.values_of r).place ≡ place)
-          → Stops (pattern_format (length old)) s 0 w place
-      to (Read.Refused w' place') h (i, e, p) = (refusal_exactly s old (Read.Refused w' place') new are h).0 (rw (e, p))
-      to (Read.Done n k f x y) h (i, e, p) = elim i [ ]
+  reason : (r : Result PatternNumbers Fault) (new : List ℕ) → Reads s old r new → Reader.IsRefused r → RefusedAt (length old) s (Reader.number_of r) (Reader.values_of r).place
+  reason (Err f) new h i = refusal_place f are h
+  reason (Ok f) new h i = elim i [ ]
 
-      told : r ≡ Read.Refused w place → Reader.IsRefused r × (Reader.number_of r ≡ w) × ((Reader.values_of r).place ≡ place)
-      told q = subst (λ (z : PatternRead). Reader.IsRefused z × (Reader.number_of z ≡ w) × ((Reader.values_of z).place ≡ place)) (sym q) (tt, refl, refl)
-
-  reason : (r : PatternRead) (new : List ℕ) → Reads s old r new → Reader.IsRefused r → RefusedAt (length old) s (Reader.number_of r) (Reader.values_of r).place
-  reason (Read.Refused w place) new h i = refusal_place are h
-  reason (Read.Done n k f x y) new h i = elim i [ ]
-
-  quiet : (r : PatternRead) (new : List ℕ) → Reads s old r new → Reader.IsRefused r
+  quiet : (r : Result PatternNumbers Fault) (new : List ℕ) → Reads s old r new → Reader.IsRefused r
       → (Reader.values_of r ≡ values_at (Reader.values_of r).place) × (new ≡ old)
-  quiet (Read.Refused w place) new h i = (refl, h.unchanged)
-  quiet (Read.Done n k f x y) new h i = elim i [ ]
+  quiet (Err f) new h i = (refl, h.unchanged)
+  quiet (Ok f) new h i = elim i [ ]
 
   -- an answer of the reader means what its number says
-  pub read_honest : (r : PatternRead) (new : List ℕ) → Reads s old r new → HonestRead s old r new
+  pub read_honest : (r : Result PatternNumbers Fault) (new : List ℕ) → Reads s old r new → HonestRead s old r new
   read_honest r new h =
       record {
         done = (done_file r new h, λ f. ap Reader.number_of (file_done r new h f).0);
         returned = λ f. let (e, l) = file_done r new h f in (ap Reader.values_of e, l);
         refused = (λ i f. subst Reader.IsRefused (file_done r new h f).0 i, no_file r new h);
-        refused_by = by_place r new h;
+        refused_by = λ w place. refusal_exactly s old r new are h;
         reason = reason r new h;
         high = high r new h;
         quiet = quiet r new h;
@@ -120,12 +106,12 @@ module _ (s old : List ℕ) (are : AreBytes s) where
 -- ---- the writer
 
 -- a refusal has one of the writer's numbers
-pub write_number : {P : Pattern} {x y : ℕ} {old : List ℕ} {w : ℕ} {new : List ℕ} → Writes P x y old (Write.Refused w) new → Among write_numbers (Against w)
-write_number {P} {x} {y} {old} h = rw (← h.against) (among_write P x y (length old))
+pub write_number : {P : Pattern} {x y : ℕ} {old : List ℕ} (why : Refusal) {new : List ℕ} → Writes P x y old (Err why) new → Among write_numbers (Against (number why))
+write_number {P} {x} {y} {old} why h = rw (← h.against) (among_write P x y (length old))
 
 -- an answer of the writer means what its number says
-pub write_honest : (P : Pattern) (x y : ℕ) (old : List ℕ) (r : Written) (new : List ℕ) → Writes P x y old r new → HonestWrite P x y old r new
-write_honest P x y old (Write.Done count) new h =
+pub write_honest : (P : Pattern) (x y : ℕ) (old : List ℕ) (r : Result ℕ Refusal) (new : List ℕ) → Writes P x y old r new → HonestWrite P x y old r new
+write_honest P x y old (Ok count) new h =
     let allowed : Allowed P x y (length old) = (write_fine P x y (length old)).0 h.allowed in
     record {
       done = (λ e. allowed, λ a. refl);
@@ -135,8 +121,8 @@ write_honest P x y old (Write.Done count) new h =
       high = λ i. absurd i;
       quiet = λ i. absurd i;
     }
-write_honest P x y old (Write.Refused u) new h =
-    let least : 10 ≤ u = among_from 10 refl (write_number h) refl in
+write_honest P x y old (Err why) new h =
+    let least : 10 ≤ number why = among_from 10 refl (write_number why h) refl in
     record {
       done = (λ e. absurd (omega (arith, least)), λ a. apart ((write_fine P x y (length old)).1 a) h.against);
       returned = λ e. absurd (omega (arith, least));

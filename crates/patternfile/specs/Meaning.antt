@@ -2,14 +2,15 @@
 --   Readable room bytes   the bytes are the file of a valid pattern with two sets of its states, and the rows have room
 --   HonestRead            what an answer of the reader means (`read_honest`)
 --   HonestWrite           what an answer of the writer means (`write_honest`)
-use Rattle.std.specs.Prelude.{ℕ, ◌*◌, ◌≤◌, List, ◌↔◌, ◌≡◌, length}
+use Rattle.std.specs.Prelude.{ℕ, ◌*◌, ◌≤◌, List, ◌↔◌, ◌≡◌, length, Result}
+use Rattle.verdict.specs.declared.Refusal.{Refusal}
+use Rattle.verdict.specs.declared.Fault.{Fault}
 use Rattle.verdict.specs.Lines.{Applies}
 use Rattle.lent.specs.Lent.{lay}
 use Rattle.sets.specs.Sets.{Good}
 use Rattle.pattern.specs.Pattern.{Pattern, Valid}
 use Rattle.numbers.specs.Faults.{Stops}
-use Rattle.patternfile.specs.declared.PatternRead.{PatternRead}
-use Rattle.patternfile.specs.declared.Written.{Written}
+use Rattle.patternfile.specs.declared.PatternNumbers.{PatternNumbers}
 use Rattle.patternfile.specs.PatternFile.{file_bytes, pattern_format}
 use Rattle.patternfile.specs.Reader as Reader
 use Rattle.patternfile.specs.Reader.{Values, values_of}
@@ -37,7 +38,7 @@ values_at place = record { states = 0; letters = 0; finals = 0; x = 0; y = 0; pl
 
 -- 7 DONE exactly where the bytes are a file, and then its values and rows are returned, and rows past n * k keep their content; a refusal, 10 and
 -- up, exactly where reading stops, by its number and place, and then nothing is changed
-pub record HonestRead (bytes old : List ℕ) (r : PatternRead) (new : List ℕ) : Type 0 where
+pub record HonestRead (bytes old : List ℕ) (r : Result PatternNumbers Fault) (new : List ℕ) : Type 0 where
   pub done : (Reader.number_of r ≡ 7) ↔ Readable (length old) bytes
   pub returned : (f : Readable (length old) bytes) → (values_of r ≡ values_in f) × (new ≡ lay f.pattern.rows old)
   pub refused : Reader.IsRefused r ↔ (Readable (length old) bytes → ⊥)
@@ -48,7 +49,7 @@ pub record HonestRead (bytes old : List ℕ) (r : PatternRead) (new : List ℕ) 
 
 -- 7 DONE exactly where nothing is refused, and then the file stands at the start of the buffer, and the bytes past its count keep their content; a
 -- refusal, 10 and up, exactly where a line applies, by its number, and then nothing is changed
-pub record HonestWrite (P : Pattern) (x y : ℕ) (old : List ℕ) (r : Written) (new : List ℕ) : Type 0 where
+pub record HonestWrite (P : Pattern) (x y : ℕ) (old : List ℕ) (r : Result ℕ Refusal) (new : List ℕ) : Type 0 where
   pub done : (Writer.number_of r ≡ 7) ↔ Allowed P x y (length old)
   pub returned : Writer.number_of r ≡ 7 → (count_of r ≡ length (file_bytes P x y)) × (new ≡ lay (file_bytes P x y) old)
   pub refused : Writer.IsRefused r ↔ (Allowed P x y (length old) → ⊥)

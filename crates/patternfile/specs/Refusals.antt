@@ -8,8 +8,8 @@ use Rattle.verdict.specs.Lines.Lines.{none, line}
 use Rattle.sets.specs.Sets.{Good}
 use Rattle.pattern.specs.Pattern.{Pattern}
 use Rattle.pattern.specs.Refusals.{MasksGood, shape_lines}
-use Rattle.numbers.specs.declared.Number.TheVariants.{Value}
 use Rattle.numbers.specs.Numbers.{number_at}
+use Rattle.numbers.specs.Numbers.Number.{Value}
 use Rattle.numbers.specs.Faults.{EndsEarly, Padded, TooBig}
 use Rattle.patternfile.specs.PatternFile.{file_bytes}
 use Rattle.patternfile.specs.Reader.{FileOf}

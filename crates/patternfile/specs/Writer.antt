@@ -5,16 +5,16 @@
 --                            and with the reader it goes round both ways (`read_after_write`, `write_after_read`)
 --   number_of r, count_of r   the number of an answer, and the byte count returned with it (`write_honest`)
 --   IsRefused r              the answer is a refusal
-use Rattle.std.specs.Prelude.{ℕ, ◌≤◌, List, [], ◌∷◌, ◌≡◌, length}
-use Rattle.verdict.specs.declared.Verdict.{Verdict}
-use Rattle.verdict.specs.declared.Verdict.TheVariants.{Fine, Against}
+use Rattle.std.specs.Prelude.{ℕ, ◌≤◌, List, [], ◌∷◌, ◌≡◌, length, Result, Ok, Err}
+use Rattle.verdict.specs.declared.Refusal.{Refusal}
+use Rattle.verdict.specs.Verdict.{Verdict}
+use Rattle.verdict.specs.Verdict.Verdict.{Fine, Against}
 use Rattle.verdict.specs.Tests.{in_order}
+use Rattle.verdict.specs.Refusals.{number}
 use Rattle.lent.specs.Lent.{Put}
 use Rattle.sets.specs.Sets.{Good}
 use Rattle.pattern.specs.Pattern.{Pattern, Valid}
 use Rattle.pattern.specs.Tests.{pattern_test, set_test, space_test}
-use Rattle.patternfile.specs.declared.Written.{Written}
-use Rattle.patternfile.specs.declared.Written.TheVariants.{Done, Refused}
 use Rattle.patternfile.specs.PatternFile.{file_bytes}
 
 unfoldable pub write_test : Pattern → ℕ → ℕ → ℕ → Verdict
@@ -37,18 +37,18 @@ pub record WriteRefused (P : Pattern) (x y : ℕ) (old : List ℕ) (w : ℕ) (ne
   pub against : write_test P x y (length old) ≡ Against w
   pub unchanged : new ≡ old
 
-abbrev pub Writes : Pattern → ℕ → ℕ → List ℕ → Written → List ℕ → Type 0
-Writes P x y old (Done count) new = WriteDone P x y old count new
-Writes P x y old (Refused w) new = WriteRefused P x y old w new
+abbrev pub Writes : Pattern → ℕ → ℕ → List ℕ → Result ℕ Refusal → List ℕ → Type 0
+Writes P x y old (Ok count) new = WriteDone P x y old count new
+Writes P x y old (Err why) new = WriteRefused P x y old (number why) new
 
-abbrev pub number_of : Written → ℕ
-number_of (Done count) = 7
-number_of (Refused w) = w
+abbrev pub number_of : Result ℕ Refusal → ℕ
+number_of (Ok count) = 7
+number_of (Err why) = number why
 
-abbrev pub count_of : Written → ℕ
-count_of (Done count) = count
-count_of (Refused w) = 0
+abbrev pub count_of : Result ℕ Refusal → ℕ
+count_of (Ok count) = count
+count_of (Err why) = 0
 
-abbrev pub IsRefused : Written → Type 0
-IsRefused (Done count) = ⊥
-IsRefused (Refused w) = Unit {0}
+abbrev pub IsRefused : Result ℕ Refusal → Type 0
+IsRefused (Ok count) = ⊥
+IsRefused (Err why) = Unit {0}

@@ -9,7 +9,7 @@ use Rattle.lent.specs.Lent.{lay}
 use Rattle.comparison.specs.Answers.{Lent, Call, answer_of, Compared}
 use Rattle.walk.proofs.WalkUnique.{walk_unique}
 use Rattle.verdict.proofs.Ordered.{apart}
-use Rattle.comparison.specs.Inclusion.{inclusion_of, Included}
+use Rattle.comparison.specs.Inclusion.{answered_one_way, Included}
 use Rattle.comparison.proofs.CompareDetermined.{compare_determined}
 use Rattle.comparison.proofs.WithinDetermined.{within_determined}
 use Rattle.evidence.specs.Evidence.{Offer}
@@ -56,9 +56,9 @@ pb_compare_lists_determined a b =
 -- `pb_compare`, and `pb_compare_default` at the default room
 pub pb_compare_determined : {Q : Question} {room : ℕ} {records : List PbRecord} {sequence : List ℕ} {r s : PbCompared} {later later' : List PbRecord} {word word' : List ℕ}
     → ComparedRecords Q room records sequence r later word → ComparedRecords Q room records sequence s later' word' → (r ≡ s) × (later ≡ later') × (word ≡ word')
-pb_compare_determined (refuses e) (refuses d) = (ap compare_answer (compare_determined (Compared.refuses e) (Compared.refuses d)).0, refl, refl)
-pb_compare_determined (refuses e) (walks d w) = apart d e
-pb_compare_determined (walks e w) (refuses d) = apart e d
+pb_compare_determined (refuses why e) (refuses why' d) = (ap compare_answer (compare_determined (Compared.refuses e) (Compared.refuses d)).0, refl, refl)
+pb_compare_determined (refuses why e) (walks d w) = apart d e
+pb_compare_determined (walks e w) (refuses why d) = apart e d
 pb_compare_determined {Q} {room} {records} {sequence} (walks e w) (walks d v) =
     let same = walk_unique w v in (
       ap (λ (o : Outcome). compare_answer (answer_of o)) same,
@@ -73,12 +73,12 @@ pb_within_lists_determined a b =
 
 pub pb_within_determined : {Q : Question} {room : ℕ} {records : List PbRecord} {sequence : List ℕ} {r s : PbCompared} {later later' : List PbRecord} {word word' : List ℕ}
     → IncludedRecords Q room records sequence r later word → IncludedRecords Q room records sequence s later' word' → (r ≡ s) × (later ≡ later') × (word ≡ word')
-pb_within_determined (IncludedRecords.refuses e) (IncludedRecords.refuses d) = (ap inclusion_answer (within_determined (Included.refuses e) (Included.refuses d)).0, refl, refl)
-pb_within_determined (IncludedRecords.refuses e) (IncludedRecords.walks d w) = apart d e
-pb_within_determined (IncludedRecords.walks e w) (IncludedRecords.refuses d) = apart e d
+pb_within_determined (IncludedRecords.refuses why e) (IncludedRecords.refuses why' d) = (ap inclusion_answer (within_determined (Included.refuses e) (Included.refuses d)).0, refl, refl)
+pb_within_determined (IncludedRecords.refuses why e) (IncludedRecords.walks d w) = apart d e
+pb_within_determined (IncludedRecords.walks e w) (IncludedRecords.refuses why d) = apart e d
 pb_within_determined {Q} {room} {records} {sequence} (IncludedRecords.walks e w) (IncludedRecords.walks d v) =
     let same = walk_unique w v in (
-      ap (λ (o : Outcome). inclusion_answer (inclusion_of (answer_of o))) same,
+      ap (λ (o : Outcome). inclusion_answer (answered_one_way (answer_of o))) same,
       ap (λ (o : Outcome). lay_records (kept_of o) records) same,
       ap (λ (o : Outcome). lay (word_of o) sequence) same,
     )

@@ -9,6 +9,7 @@ use Prim.Native.Nat.{ℕ, zero, suc, ◌+◌, ◌*◌, ◌≤◌, ◌<◌}
 use native.Mathlib.Nat.{mul-le-mul}
 use native.Mathlib.Omega.{arith}
 use lib.ListN.{length, take, drop, length-map}
+use Rattle.std.specs.Prelude.{Ok, Err}
 use Rattle.verdict.specs.Tests.{need}
 use Rattle.verdict.specs.Lines.{Applies}
 use Rattle.verdict.proofs.Numbered.{all_from, among_need, among_from}
@@ -20,7 +21,7 @@ use Rattle.pattern.specs.Language.{accepts, Over, SameLanguage}
 use Rattle.pattern.specs.Inclusion.{LanguageWithin}
 use Rattle.pattern.specs.Judge as Judge
 use Rattle.pattern.specs.Judge.{judged}
-use Rattle.pattern.specs.declared.Judged.{Judged}
+use Rattle.pattern.specs.Judge.{Judged}
 use Rattle.pattern.proofs.Inclusion.{union_within}
 use Rattle.pattern.proofs.Judging.{judge_honest, judge_answered, judge_lines_lem, judge_among}
 use Rattle.walk.specs.Walk.{Question, Outcome, kept_of, word_of}
@@ -30,16 +31,19 @@ use Rattle.walk.specs.Meaning.{Proper, Covers}
 use Rattle.walk.specs.Inclusion.{joined}
 use Rattle.walk.proofs.Columns.{fit_at, fit_by}
 use Rattle.comparison.specs.Answers as Comparison
+use Rattle.std.specs.Prelude.{Result, Ok, Err}
+use Rattle.verdict.specs.declared.Refusal.{Refusal}
+use Rattle.verdict.specs.declared.Fault.{Fault}
 use Rattle.comparison.specs.Answers.{Lent, Call, answer_of, values_of, Compared}
 use Rattle.comparison.specs.Answers.Compared.{refuses, walks}
 use Rattle.comparison.specs.Meaning as OfComparison
 use Rattle.comparison.specs.Meaning.{Roomy, SameWritten}
 use Rattle.comparison.specs.declared.Answer.{Answer}
 use Rattle.comparison.specs.Inclusion as OneWay
-use Rattle.comparison.specs.Inclusion.{inclusion_of, Included}
+use Rattle.comparison.specs.Inclusion.{AnsweredOneWay, answered_one_way, Included}
 use Rattle.comparison.specs.InclusionMeaning as OfOneWay
 use Rattle.comparison.specs.declared.inclusion.Inclusion.{Inclusion}
-use Rattle.comparison.proofs.Asking.{compare_fine, compare_among, refusal_number}
+use Rattle.comparison.proofs.Asking.{compare_fine, compare_among}
 use Rattle.comparison.proofs.Standing.{laid, firsts_laid}
 use Rattle.comparison.proofs.CompareHonest.{compare_valid, compare_honest, compare_answers}
 use Rattle.comparison.proofs.CompareRoom.{kept_is, compare_more_room, compare_room_enough, compare_never_full}
@@ -58,11 +62,10 @@ use Rattle.evidence.proofs.Refusing.{check_lines_lem, check_among}
 use Rattle.numbers.specs.Numbers.{AreBytes}
 use Rattle.patternfile.specs.PatternFile.{file_bytes}
 use Rattle.patternfile.specs.Reader as Reader
-use Rattle.patternfile.specs.Reader.{Reads}
+use Rattle.patternfile.specs.Reader.{with_rows, Reads}
 use Rattle.patternfile.specs.Writer as Writer
 use Rattle.patternfile.specs.Writer.{Writes}
-use Rattle.patternfile.specs.declared.PatternRead.{PatternRead}
-use Rattle.patternfile.specs.declared.Written.{Written}
+use Rattle.patternfile.specs.declared.PatternNumbers.{PatternNumbers}
 use Rattle.patternfile.proofs.Returned.{read_number, read_honest, write_number, write_honest}
 use Rattle.patternfile.proofs.Longest.{file_short}
 use Rattle.patternfile.proofs.Places.{padded_there, too_big_there}
@@ -70,7 +73,7 @@ use Rattle.patternfile.proofs.RoundTrip.{read_after_write, write_after_read}
 use Rattle.expressions.specs.Expressions.{Expr, Takes}
 use Rattle.expressions.specs.Texts.{Means}
 use Rattle.expressions.specs.Languages.{Speaks, Answered}
-use Rattle.expressions.specs.declared.Answer as Texts
+use Rattle.expressions.specs.Answers as Texts
 use Rattle.expressions.proofs.Faults.{one_meaning}
 use Rattle.expressions.proofs.Meaning.{expressions_honest}
 use Rattle.expressions.proofs.Room.{rows_enough}
@@ -82,7 +85,7 @@ use Rattle.records.specs.Records.{written, columns_in, lent_for, call_on, Compar
 use Rattle.records.specs.Offers.{offer_for}
 use Rattle.records.proofs.Agreeing.{column_in, columns_first, firsts_known, pb_compare_by_columns, pb_compare_from_columns, pb_within_by_columns, pb_within_from_columns}
 use Rattle.records.proofs.Offering.{compare_same_is_proved}
-use Rattle.records.proofs.OneWay.{one_way_high, as_within_lem, as_refused}
+use Rattle.records.proofs.OneWay.{one_way_high, as_within_lem}
 use Rattle.pressbadger.specs.declared.PbJudged.{PbJudged}
 use Rattle.pressbadger.specs.declared.files.PbPattern.{PbPattern}
 use Rattle.pressbadger.specs.declared.files.PbWritten.{PbWritten}
@@ -99,16 +102,16 @@ high numbers {w} e m = among_from 10 e (among_need numbers false w m) refl
 
 -- ---- the comparison, as `comparison` says it
 
-module _ {c : Call} {a : Answer} {later : Lent} (k : Compared c a later) where
+module _ {c : Call} {a : Comparison.Answered} {later : Lent} (k : Compared c a later) where
   -- the answer is a refusal exactly where its number is one of the refusals
   named : OneOf compare_refusals (Comparison.number_of a) ↔ OfComparison.IsRefused a
   named = (to k, fro k)
     where
-      to : {a : Answer} {later : Lent} → Compared c a later → OneOf compare_refusals (Comparison.number_of a) → OfComparison.IsRefused a
+      to : {a : Comparison.Answered} {later : Lent} → Compared c a later → OneOf compare_refusals (Comparison.number_of a) → OfComparison.IsRefused a
       to (refuses e) m = tt
       to (walks {o} f w) m = absurd (omega (arith, high compare_refusals refl m, compare_valid ((compare_fine c).0 f) (walks f w)))
 
-      fro : {a : Answer} {later : Lent} → Compared c a later → OfComparison.IsRefused a → OneOf compare_refusals (Comparison.number_of a)
+      fro : {a : Comparison.Answered} {later : Lent} → Compared c a later → OfComparison.IsRefused a → OneOf compare_refusals (Comparison.number_of a)
       fro (refuses e) i = (compare_among c).among _ e
       fro (walks {o} f w) i = absurd ((compare_honest (walks {o = o} f w)).refused.0 i ((compare_fine c).0 f))
 
@@ -136,18 +139,18 @@ module _ {c : Call} {a : Answer} {later : Lent} (k : Compared c a later) where
       three (suc (suc zero)) h = Memᴰ.tail (Memᴰ.tail (Memᴰ.head refl))
       three (suc (suc (suc n))) h = absurd (omega (arith, h))
 
-      no_length : (a : Answer) → (Comparison.number_of a ≡ 1 → ⊥) → (values_of a).length ≡ 0
-      no_length (Answer.Same kept examined) f = refl
-      no_length (Answer.Different kept examined length) f = absurd (f refl)
-      no_length (Answer.Full kept examined) f = refl
-      no_length (Answer.Refused number) f = refl
+      no_length : (a : Comparison.Answered) → (Comparison.number_of a ≡ 1 → ⊥) → (values_of a).length ≡ 0
+      no_length (Ok (Answer.Same kept examined)) f = refl
+      no_length (Ok (Answer.Different kept examined length)) f = absurd (f refl)
+      no_length (Ok (Answer.Full kept examined)) f = refl
+      no_length (Err why) f = refl
 
 length_is : (o : Outcome) → (values_of (answer_of o)).length ≡ length (word_of o)
 length_is (Same kept e) = refl
 length_is (Different kept e w) = refl
 length_is (Full kept e) = refl
 
-left : {c : Call} {a : Answer} {later : Lent} → Compared c a later → LeftLists c.lent (compare_answer a) later
+left : {c : Call} {a : Comparison.Answered} {later : Lent} → Compared c a later → LeftLists c.lent (compare_answer a) later
 left {c} (refuses e) = record { quiet = λ m. (refl, refl); other_numbers = λ x. refl; other_bytes = refl }
 left {c} (walks {o} f w) =
     record {
@@ -157,7 +160,7 @@ left {c} (walks {o} f w) =
       other_bytes = drop_lay (word_of o) c.lent.sequence (values_of (answer_of o)).length (sym (length_is o));
     }
 
-walked : {c : Call} {a : Answer} {later : Lent} → Compared c a later → (OfComparison.IsRefused a → ⊥) → WalkedLists c.question c.room (compare_answer a) later
+walked : {c : Call} {a : Comparison.Answered} {later : Lent} → Compared c a later → (OfComparison.IsRefused a → ⊥) → WalkedLists c.question c.room (compare_answer a) later
 walked (refuses e) n = absurd (n tt)
 walked {c} (walks {o} f w) n =
     record {
@@ -276,7 +279,7 @@ module _ {Q : Question} {room : ℕ} {records : List PbRecord} {sequence : List 
 module _ {Q : Question} {room : ℕ} {records : List PbRecord} {sequence : List ℕ} where
   -- it is quiet, and touches nothing that is not named
   pub pb_compare_leaves : {r : PbCompared} {later : List PbRecord} {word : List ℕ} → ComparedRecords Q room records sequence r later word → LeftRecords records sequence r later word
-  pb_compare_leaves (ComparedRecords.refuses e) = record { quiet = λ m. (refl, refl, refl); other_records = refl; other_bytes = refl }
+  pb_compare_leaves (ComparedRecords.refuses why e) = record { quiet = λ m. (refl, refl, refl); other_records = refl; other_bytes = refl }
   pb_compare_leaves (ComparedRecords.walks {o} f w) =
       let low : Comparison.number_of (answer_of o) ≤ 2 = compare_valid ((compare_fine (call_on Q room records sequence)).0 f) (walks f w) in
       record {
@@ -287,7 +290,7 @@ module _ {Q : Question} {room : ℕ} {records : List PbRecord} {sequence : List 
 
   pub pb_compare_walks : {r : PbCompared} {later : List PbRecord} {word : List ℕ} → ComparedRecords Q room records sequence r later word
       → (OneOf compare_refusals r.answer → ⊥) → WalkedRecords Q room r later word
-  pb_compare_walks (ComparedRecords.refuses e) n = absurd (n ((compare_among _).among _ e))
+  pb_compare_walks (ComparedRecords.refuses why e) n = absurd (n ((compare_among _).among _ e))
   pb_compare_walks (ComparedRecords.walks {o} f w) n =
       record {
         outcome = o;
@@ -320,11 +323,11 @@ module _ {Q : Question} {room more : ℕ} {records records' : List PbRecord} {se
 
 -- ---- the one-way question, as `comparison` says it
 
-module _ {c : Call} {a : Inclusion} {later : Lent} (k : Included c a later) where
+module _ {c : Call} {a : AnsweredOneWay} {later : Lent} (k : Included c a later) where
   named_within : OneOf compare_refusals (OneWay.number_of a) ↔ OfOneWay.IsRefused a
   named_within = (to k, fro k)
     where
-      to : {a : Inclusion} {later : Lent} → Included c a later → OneOf compare_refusals (OneWay.number_of a) → OfOneWay.IsRefused a
+      to : {a : AnsweredOneWay} {later : Lent} → Included c a later → OneOf compare_refusals (OneWay.number_of a) → OfOneWay.IsRefused a
       to (Included.refuses e) m = tt
       to (Included.walks {o} f w) m = absurd (low (high compare_refusals refl m) (within_valid ((compare_fine c).0 f) (Included.walks {o = o} f w)))
         where
@@ -333,7 +336,7 @@ module _ {c : Call} {a : Inclusion} {later : Lent} (k : Included c a later) wher
           low h (inr (inl e)) = omega (arith, e)
           low h (inr (inr e)) = omega (arith, e)
 
-      fro : {a : Inclusion} {later : Lent} → Included c a later → OfOneWay.IsRefused a → OneOf compare_refusals (OneWay.number_of a)
+      fro : {a : AnsweredOneWay} {later : Lent} → Included c a later → OfOneWay.IsRefused a → OneOf compare_refusals (OneWay.number_of a)
       fro (Included.refuses e) i = (compare_among c).among _ e
       fro (Included.walks {o} f w) i = absurd ((within_honest (Included.walks {o = o} f w)).refused.0 i ((compare_fine c).0 f))
 
@@ -360,11 +363,11 @@ module _ {c : Call} {a : Inclusion} {later : Lent} (k : Included c a later) wher
       three (inr (inl e)) = Memᴰ.tail (Memᴰ.head e)
       three (inr (inr e)) = Memᴰ.tail (Memᴰ.tail (Memᴰ.head e))
 
-      no_length : (a : Inclusion) → (OneWay.number_of a ≡ 9 → ⊥) → (OneWay.values_of a).length ≡ 0
-      no_length (Inclusion.Within kept examined) f = refl
-      no_length (Inclusion.NotWithin kept examined length) f = absurd (f refl)
-      no_length (Inclusion.Full kept examined) f = refl
-      no_length (Inclusion.Refused number) f = refl
+      no_length : (a : AnsweredOneWay) → (OneWay.number_of a ≡ 9 → ⊥) → (OneWay.values_of a).length ≡ 0
+      no_length (Ok (Inclusion.Within kept examined)) f = refl
+      no_length (Ok (Inclusion.NotWithin kept examined length)) f = absurd (f refl)
+      no_length (Ok (Inclusion.Full kept examined)) f = refl
+      no_length (Err why) f = refl
 
 -- ---- by the comparison of X+Y with Y
 
@@ -387,16 +390,16 @@ pb_within_lists_answers c = let (a, later, k) = within_answers c in (inclusion_a
 pub pb_within_lists_compares : {c : Call} {r : PbCompared} {later : Lent} → IncludedLists c r later → (s : PbCompared) × ComparedLists (joined_call c) s later × (r ≡ as_within s)
 pb_within_lists_compares {c} {later = later} k = let (s, q, e) = from k.included in (s, q, k.answers ∙ e)
   where
-    from : {a : Inclusion} {later : Lent} → Included c a later → (s : PbCompared) × ComparedLists (joined_call c) s later × (inclusion_answer a ≡ as_within s)
-    from (Included.refuses {number} e) = (
-      compare_answer (Answer.Refused number),
-      record { answer = Answer.Refused number; compared = refuses (joined_test c ∙ e); answers = refl },
-      as_refused (refusal_number c e),
+    from : {a : AnsweredOneWay} {later : Lent} → Included c a later → (s : PbCompared) × ComparedLists (joined_call c) s later × (inclusion_answer a ≡ as_within s)
+    from (Included.refuses {why} e) = (
+      compare_answer (Err why),
+      record { answer = Err why; compared = refuses (joined_test c ∙ e); answers = refl },
+      as_within_lem (Err why),
     )
     from (Included.walks {o} f w) = (
       compare_answer (answer_of o),
       record { answer = answer_of o; compared = walks (joined_test c ∙ f) w; answers = refl },
-      as_within_lem o,
+      as_within_lem (answer_of o),
     )
 
 module _ {c : Call} {r : PbCompared} {later : Lent} (k : IncludedLists c r later) where
@@ -468,15 +471,15 @@ module _ {Q : Question} {room : ℕ} {records : List PbRecord} {sequence : List 
   -- it is pb_compare of X+Y and Y, with WITHIN for SAME and NOT-WITHIN for DIFFERENT
   pub pb_within_compares : {r : PbCompared} {later : List PbRecord} {word : List ℕ} → IncludedRecords Q room records sequence r later word
       → (s : PbCompared) × ComparedRecords (joined Q) room records sequence s later word × (r ≡ as_within s)
-  pb_within_compares (IncludedRecords.refuses {number} e) = (
-    compare_answer (Answer.Refused number),
-    ComparedRecords.refuses (joined_test (call_on Q room records sequence) ∙ e),
-    as_refused (refusal_number (call_on Q room records sequence) e),
+  pb_within_compares (IncludedRecords.refuses why e) = (
+    compare_answer (Err why),
+    ComparedRecords.refuses why (joined_test (call_on Q room records sequence) ∙ e),
+    as_within_lem (Err why),
   )
   pb_within_compares (IncludedRecords.walks {o} f w) = (
     compare_answer (answer_of o),
     ComparedRecords.walks (joined_test (call_on Q room records sequence) ∙ f) w,
-    as_within_lem o,
+    as_within_lem (answer_of o),
   )
 
 module _ {Q : Question} {room : ℕ} {records : List PbRecord} {sequence : List ℕ} {r : PbCompared} {later : List PbRecord} {word : List ℕ}
@@ -514,14 +517,14 @@ pb_within_more_room le k k' fits h =
 
 -- ---- pb_check, and pb_check_records at the two sides of the records
 
-module _ {o : Offer} {a : Evidence'.Answer} (k : Checked o a) where
+module _ {o : Offer} {a : Result Evidence'.Answer Refusal} (k : Checked o a) where
   named_check : OneOf check_refusals (Evidence.number_of a) ↔ OfEvidence.IsRefused a
   named_check = (λ m. to a (high check_refusals refl m), λ i. (check_among o).among _ (((check_lines_lem o).against _).1 (((check_honest k).refused_by _).0 (i, refl))))
     where
-      to : (a : Evidence'.Answer) → 10 ≤ Evidence.number_of a → OfEvidence.IsRefused a
-      to Evidence'.TheVariants.Proved h = omega (arith, h)
-      to (Evidence'.TheVariants.NotProved place) h = omega (arith, h)
-      to (Evidence'.TheVariants.Refused w) h = tt
+      to : (a : Result Evidence'.Answer Refusal) → 10 ≤ Evidence.number_of a → OfEvidence.IsRefused a
+      to (Ok Evidence'.TheVariants.Proved) h = omega (arith, h)
+      to (Ok (Evidence'.TheVariants.NotProved place)) h = omega (arith, h)
+      to (Err why) h = tt
 
   check_means : CheckedMeans o (check_answer a)
   check_means =
@@ -578,7 +581,7 @@ same_by z (inr m) = absurd (omega (arith, high compare_refusals refl m, as_refus
 one_of : {c : Call} {s : PbCompared} {later : Lent} → ComparedLists c s later → OneOf (SAME ∷ DIFFERENT ∷ FULL ∷ []) s.answer ⊎ OneOf compare_refusals s.answer
 one_of k = rw k.answers (from k.compared)
   where
-    from : {c : Call} {a : Answer} {later : Lent} → Compared c a later
+    from : {c : Call} {a : Comparison.Answered} {later : Lent} → Compared c a later
         → OneOf (SAME ∷ DIFFERENT ∷ FULL ∷ []) (Comparison.number_of a) ⊎ OneOf compare_refusals (Comparison.number_of a)
     from {c} (refuses e) = inr ((compare_among c).among _ e)
     from {c} (walks {o} f w) = inl ((means (walks {o = o} f w)).answered ((compare_fine c).0 f))
@@ -632,9 +635,9 @@ module _ (P : Pattern) (set : ℕ) (sequence : List ℕ) where
 -- ---- pb_read_pattern, of the bytes that a slice of bytes holds
 
 module _ {bytes : List ℕ} (are : AreBytes bytes) (old : List ℕ) where
-  named_read : (r : PatternRead) (new : List ℕ) → Reads bytes old r new → OneOf read_refusals (Reader.number_of r) ↔ Reader.IsRefused r
-  named_read (PatternRead.Done n k finals x y) new h = (λ m. omega (arith, high read_refusals refl m), λ i. absurd i)
-  named_read (PatternRead.Refused w place) new h = (λ m. tt, λ i. (read_number {s = bytes} {old = old} {new = new} are h).among w refl)
+  named_read : (r : Result PatternNumbers Fault) (new : List ℕ) → Reads bytes old r new → OneOf read_refusals (Reader.number_of r) ↔ Reader.IsRefused r
+  named_read (Ok f) new h = (λ m. omega (arith, high read_refusals refl m), λ i. absurd i)
+  named_read (Err fault) new h = (λ m. tt, λ i. (read_number {s = bytes} {old = old} {new = new} fault are h).among _ refl)
 
   padded_refuses : OneOf read_refusals PADDED
   padded_refuses = Memᴰ.tail (Memᴰ.tail (Memᴰ.tail (Memᴰ.tail (Memᴰ.head refl))))
@@ -642,7 +645,7 @@ module _ {bytes : List ℕ} (are : AreBytes bytes) (old : List ℕ) where
   too_big_refuses : OneOf read_refusals TOO_BIG
   too_big_refuses = Memᴰ.tail (Memᴰ.tail (Memᴰ.tail (Memᴰ.tail (Memᴰ.tail (Memᴰ.tail (Memᴰ.head refl))))))
 
-  read_means : (r : PatternRead) (new : List ℕ) → Reads bytes old r new → PatternMeans bytes old (pattern_answer r) new
+  read_means : (r : Result PatternNumbers Fault) (new : List ℕ) → Reads bytes old r new → PatternMeans bytes old (pattern_answer r) new
   read_means r new k =
       let h = read_honest bytes old are r new k in
       let named = named_read r new k in
@@ -678,11 +681,11 @@ module _ {bytes : List ℕ} (are : AreBytes bytes) (old : List ℕ) where
 -- ---- pb_write_pattern
 
 module _ (P : Pattern) (x y : ℕ) (old : List ℕ) where
-  named_write : (r : Written) (new : List ℕ) → Writes P x y old r new → OneOf write_refusals (Writer.number_of r) ↔ Writer.IsRefused r
-  named_write (Written.Done count) new h = (λ m. omega (arith, high write_refusals refl m), λ i. absurd i)
-  named_write (Written.Refused w) new h = (λ m. tt, λ i. (write_number {P = P} {x = x} {y = y} {old = old} {new = new} h).among w refl)
+  named_write : (r : Result ℕ Refusal) (new : List ℕ) → Writes P x y old r new → OneOf write_refusals (Writer.number_of r) ↔ Writer.IsRefused r
+  named_write (Ok count) new h = (λ m. omega (arith, high write_refusals refl m), λ i. absurd i)
+  named_write (Err why) new h = (λ m. tt, λ i. (write_number {P = P} {x = x} {y = y} {old = old} why h).among _ refl)
 
-  write_means : (r : Written) (new : List ℕ) → Writes P x y old r new → WrittenMeans P x y old (written_answer r) new
+  write_means : (r : Result ℕ Refusal) (new : List ℕ) → Writes P x y old r new → WrittenMeans P x y old (written_answer r) new
   write_means r new k =
       let h = write_honest P x y old r new k in
       let named = named_write r new k in
@@ -709,8 +712,8 @@ module _ (P : Pattern) (x y : ℕ) (old : List ℕ) where
 
 module _ (one two old : List ℕ) where
   expressed_means : (a : Texts.Answer) (new : List ℕ) → Answered one two old new a → ExpressedMeans one two old (expressed_answer a) new
-  expressed_means (Texts.Answer.Done n finals x y) new k =
-      let h = expressions_honest one two old (Texts.Answer.Done n finals x y) new k in
+  expressed_means (Ok p) new k =
+      let h = expressions_honest one two old (Ok p) new k in
       record {
         done = h.done;
         returned = λ e. refl;
@@ -719,8 +722,8 @@ module _ (one two old : List ℕ) where
         refused_by = λ w place text. (λ p. absurd (omega (arith, high text_refusals refl p.0)), λ p. absurd ((h.refused_by w place text).1 p).0);
         quiet = λ m. absurd (omega (arith, high text_refusals refl m));
       }
-  expressed_means (Texts.Answer.Refused number at text) new k =
-      let h = expressions_honest one two old (Texts.Answer.Refused number at text) new k in
+  expressed_means (Err f) new k =
+      let h = expressions_honest one two old (Err f) new k in
       record {
         done = h.done;
         returned = λ e. absurd (h.made e);
@@ -774,13 +777,13 @@ pub pb_read_after_write : {P : Pattern} {x y : ℕ} {out old : List ℕ} {w : Pb
     → P.states * P.letters ≤ length old → ReadPattern (take w.count out') old r new → (r ≡ done_pattern P x y) × (new ≡ lay P.rows old)
 pb_read_after_write {P} {x} {y} {out} {old} {w} {out'} {r} {new} k e enough k' = from k.written k.leaves k.answers e k'
   where
-    from : {w : PbWritten} (a : Written) → Writes P x y out a out' → w ≡ written_answer a → w.answer ≡ DONE → ReadPattern (take w.count out') old r new
+    from : {w : PbWritten} (a : Result ℕ Refusal) → Writes P x y out a out' → w ≡ written_answer a → w.answer ≡ DONE → ReadPattern (take w.count out') old r new
         → (r ≡ done_pattern P x y) × (new ≡ lay P.rows old)
-    from (Written.Done count) h d e k =
+    from (Ok count) h d e k =
         let reads : Reads (take count out') old k.read new = rw d at k.leaves in
         let (f, l) = read_after_write P x y out count out' h old k.read new enough reads in
         (k.answers ∙ ap pattern_answer f, l)
-    from (Written.Refused u) h d e k = absurd (omega (arith, high write_refusals refl ((named_write P x y out (Written.Refused u) out' h).1 tt), ap (λ (z : PbWritten). z.answer) d, e))
+    from (Err why) h d e k = absurd (omega (arith, high write_refusals refl ((named_write P x y out (Err why) out' h).1 tt), ap (λ (z : PbWritten). z.answer) d, e))
 
 -- what pb_read_pattern read, pb_write_pattern writes back, byte for byte
 pub pb_write_after_read : {bytes old out : List ℕ} {r : PbPattern} {new : List ℕ} {w : PbWritten} {out' : List ℕ} → AreBytes bytes → ReadPattern bytes old r new → r.answer ≡ DONE
@@ -788,11 +791,11 @@ pub pb_write_after_read : {bytes old out : List ℕ} {r : PbPattern} {new : List
     → (w ≡ done_written (length bytes)) × (out' ≡ lay bytes out)
 pb_write_after_read {bytes} {old} {out} {r} {new} {w} {out'} are k e enough k' = from k.read k.leaves k.answers e k'
   where
-    from : {r : PbPattern} (a : PatternRead) → Reads bytes old a new → r ≡ pattern_answer a → r.answer ≡ DONE
+    from : {r : PbPattern} (a : Result PatternNumbers Fault) → Reads bytes old a new → r ≡ pattern_answer a → r.answer ≡ DONE
         → WrittenPattern (pattern_of r.states r.letters r.finals (take (r.states * r.letters) new)) r.x r.y out w out'
         → (w ≡ done_written (length bytes)) × (out' ≡ lay bytes out)
-    from (PatternRead.Done n k f x y) h d e q =
-        let writes : Writes (pattern_of n k f (take (n * k) new)) x y out q.written out' = rw d at q.leaves in
-        let (g, l) = write_after_read bytes old n k f x y new are h out q.written out' enough writes in
+    from (Ok f) h d e q =
+        let writes : Writes (with_rows f (take (f.states * f.letters) new)) f.x f.y out q.written out' = rw d at q.leaves in
+        let (g, l) = write_after_read bytes old f new are h out q.written out' enough writes in
         (q.answers ∙ ap written_answer g, l)
-    from (PatternRead.Refused u place) h d e q = absurd (omega (arith, high read_refusals refl ((named_read are old (PatternRead.Refused u place) new h).1 tt), ap (λ (z : PbPattern). z.answer) d, e))
+    from (Err fault) h d e q = absurd (omega (arith, high read_refusals refl ((named_read are old (Err fault) new h).1 tt), ap (λ (z : PbPattern). z.answer) d, e))

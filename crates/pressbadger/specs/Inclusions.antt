@@ -2,7 +2,8 @@
 use Rattle.std.specs.Prelude.{List, ℕ}
 use Rattle.lent.specs.Lent.{SliceOf, Slice, before, after}
 use Rattle.walk.specs.Walk.{question_of}
-use Rattle.comparison.specs.Answers.{call_of, lent_before, lent_after}
+use Rattle.comparison.specs.Answers.{call_of}
+use Rattle.pressbadger.specs.Compares.{lent_before, lent_after}
 use Rattle.records.specs.declared.PbRecord.{PbRecord}
 use Rattle.records.specs.declared.answers.PbCompared.{PbCompared}
 use Rattle.records.specs.Answers.{IncludedLists}

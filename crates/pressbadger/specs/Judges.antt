@@ -1,8 +1,7 @@
 -- What `pb_judge` answers: the scope's number of what judging answers (§7).
 use Rattle.std.specs.Prelude.{◌≡◌, List, ℕ}
 use Rattle.pattern.specs.Pattern.{pattern_of}
-use Rattle.pattern.specs.Judge.{judged, number_of}
-use Rattle.pattern.specs.declared.Judged.{Judged}
+use Rattle.pattern.specs.Judge.{Judged, judged, number_of}
 use Rattle.pressbadger.specs.declared.PbJudged.{PbJudged}
 
 abbrev pub judge_answer : Judged → PbJudged

@@ -1,6 +1,8 @@
 // Evidence: pairs checked, in two lists of numbers or in a list of records.
 ghost use Rattle.pressbadger.specs.Checks.{ChecksLists, ChecksRecords};
 
+use evidence::Offer;
+use pattern::Pattern;
 use records::PbRecord;
 use records::answers::PbChecked;
 
@@ -18,8 +20,20 @@ pub extern "C" fn pb_check(
 ) -> PbChecked
     ensures { ChecksLists states letters finals rows.now x y lefts.now rights.now result }
 {
-    let answer = evidence::check(states, letters, finals, rows, x, y, lefts, rights);
-    records::answers::check_answer(answer)
+    let pattern = Pattern {
+        states,
+        letters,
+        finals,
+        rows,
+    };
+    let offer = Offer {
+        pattern,
+        x,
+        y,
+        lefts,
+        rights,
+    };
+    PbChecked::from(offer.check())
 }
 
 // Checks the pairs of a list of records, as SAME leaves it, as evidence that the sets `x` and `y` have one language.
@@ -35,5 +49,6 @@ pub extern "C" fn pb_check_records(
 ) -> PbChecked
     ensures { ChecksRecords states letters finals rows.now x y records.now result }
 {
-    records::checks::check(states, letters, finals, rows, x, y, records)
+    let question = crate::asked(states, letters, finals, rows, x, y);
+    PbChecked::from(records::checks::check(&question, records))
 }

@@ -2,11 +2,13 @@
 ghost use Rattle.sets.specs.Rooms.{default_room};
 ghost use Rattle.pressbadger.specs.Compares.{ComparesRecords, ComparesLists};
 
+use comparison::Tables;
 use records::PbRecord;
 use records::answers::PbCompared;
 use sets::States;
 
-// Compares the sets `x` and `y` of states of a pattern in a given room, and writes the records that are kept.
+// Compares the sets `x` and `y` of states of a pattern in a given room, and writes the records that are kept. In its caller's frame: the stack it needs is said in the header.
+#[inline(always)]
 #[unsafe(no_mangle)]
 pub extern "C" fn pb_compare(
     states: usize,
@@ -21,7 +23,9 @@ pub extern "C" fn pb_compare(
 ) -> PbCompared
     ensures { ComparesRecords states letters finals rows.now x y room records sequence result }
 {
-    records::compares::compare(states, letters, finals, rows, x, y, room, records, sequence)
+    let question = crate::asked(states, letters, finals, rows, x, y);
+    let answer = records::compares::compare(&question, room, records, sequence);
+    PbCompared::from(answer)
 }
 
 // The short form: the default room.
@@ -69,8 +73,14 @@ pub extern "C" fn pb_compare_lists(
 ) -> PbCompared
     ensures { ComparesLists states letters finals rows.now x y room lefts rights parents taken sequence result }
 {
-    let answer = comparison::compare(
-        states, letters, finals, rows, x, y, room, lefts, rights, parents, taken, sequence,
-    );
-    records::answers::compare_answer(answer)
+    let question = crate::asked(states, letters, finals, rows, x, y);
+    let mut tables = Tables {
+        lefts,
+        rights,
+        parents,
+        taken,
+        sequence,
+    };
+    let answer = comparison::compare(&question, room, &mut tables);
+    PbCompared::from(answer)
 }

@@ -3,7 +3,8 @@ ghost use Rattle.std.specs.Prelude.{◌≡◌};
 ghost use Rattle.pattern.specs.Pattern.{pattern_of};
 ghost use Rattle.pressbadger.specs.Files.{pattern_answer, ReadPattern, written_answer, WrittenPattern};
 
-use patternfile::{PatternRead, Written};
+use patternfile::PatternNumbers;
+use verdict::{Fault, Refusal};
 
 // The answer to `pb_read_pattern`: 7 and the file's numbers, or a refusal and its place.
 #[repr(C)]
@@ -18,6 +19,41 @@ pub struct PbPattern {
     pub place: usize,
 }
 
+impl From<Result<PatternNumbers, Fault>> for PbPattern {
+    ghost from_gives = { λ read r. r ≡ pattern_answer read };
+
+    fn from(read: Result<PatternNumbers, Fault>) -> PbPattern {
+        match read {
+            Ok(
+                PatternNumbers {
+                    states,
+                    letters,
+                    finals,
+                    x,
+                    y,
+                },
+            ) => PbPattern {
+                answer: 7,
+                states,
+                letters,
+                finals,
+                x,
+                y,
+                place: 0,
+            },
+            Err(Fault { why, place }) => PbPattern {
+                answer: u8::from(why),
+                states: 0,
+                letters: 0,
+                finals: 0,
+                x: 0,
+                y: 0,
+                place,
+            },
+        }
+    }
+}
+
 // The answer to `pb_write_pattern`: 7 and how many bytes were written, or a refusal and 0.
 #[repr(C)]
 #[derive(Clone, Copy)]
@@ -26,44 +62,26 @@ pub struct PbWritten {
     pub count: usize,
 }
 
+impl From<Result<usize, Refusal>> for PbWritten {
+    ghost from_gives = { λ written r. r ≡ written_answer written };
+
+    fn from(written: Result<usize, Refusal>) -> PbWritten {
+        match written {
+            Ok(count) => PbWritten { answer: 7, count },
+            Err(why) => PbWritten {
+                answer: u8::from(why),
+                count: 0,
+            },
+        }
+    }
+}
+
 // Reads a pattern file; its rows go into `rows`.
 #[unsafe(no_mangle)]
 pub extern "C" fn pb_read_pattern(bytes: &[u8], rows: &mut [u64]) -> PbPattern
     ensures { ReadPattern bytes.now rows.old result rows.new }
 {
-    let read = patternfile::read(bytes, rows);
-    pattern_answer(read)
-}
-
-fn pattern_answer(read: PatternRead) -> PbPattern
-    ensures { result ≡ pattern_answer read }
-{
-    match read {
-        PatternRead::Done {
-            states,
-            letters,
-            finals,
-            x,
-            y,
-        } => PbPattern {
-            answer: 7,
-            states: states,
-            letters: letters,
-            finals: finals,
-            x: x,
-            y: y,
-            place: 0,
-        },
-        PatternRead::Refused(number, place) => PbPattern {
-            answer: number,
-            states: 0,
-            letters: 0,
-            finals: 0,
-            x: 0,
-            y: 0,
-            place: place,
-        },
-    }
+    PbPattern::from(patternfile::read(bytes, rows))
 }
 
 // Writes the pattern file of a pattern and two sets into `bytes`.
@@ -79,21 +97,6 @@ pub extern "C" fn pb_write_pattern(
 ) -> PbWritten
     ensures { WrittenPattern (pattern_of states letters finals rows.now) x y bytes.old result bytes.new }
 {
-    let written = patternfile::write(states, letters, finals, rows, x, y, bytes);
-    written_answer(written)
-}
-
-fn written_answer(written: Written) -> PbWritten
-    ensures { result ≡ written_answer written }
-{
-    match written {
-        Written::Done(count) => PbWritten {
-            answer: 7,
-            count: count,
-        },
-        Written::Refused(number) => PbWritten {
-            answer: number,
-            count: 0,
-        },
-    }
+    let question = crate::asked(states, letters, finals, rows, x, y);
+    PbWritten::from(patternfile::write(&question, bytes))
 }

@@ -1,6 +1,7 @@
 // The one-way question: over a lent list of records, and over lists of numbers for a host that has no table of its own.
 ghost use Rattle.pressbadger.specs.Inclusions.{IncludesRecords, IncludesLists};
 
+use comparison::{Tables, inclusion};
 use records::PbRecord;
 use records::answers::PbCompared;
 
@@ -19,7 +20,9 @@ pub extern "C" fn pb_within(
 ) -> PbCompared
     ensures { IncludesRecords states letters finals rows.now x y room records sequence result }
 {
-    records::compares::within(states, letters, finals, rows, x, y, room, records, sequence)
+    let question = crate::asked(states, letters, finals, rows, x, y);
+    let answer = records::compares::within(&question, room, records, sequence);
+    PbCompared::from(answer)
 }
 
 // The same, with a list of numbers for each column of the records.
@@ -40,8 +43,14 @@ pub extern "C" fn pb_within_lists(
 ) -> PbCompared
     ensures { IncludesLists states letters finals rows.now x y room lefts rights parents taken sequence result }
 {
-    let answer = comparison::inclusion::within(
-        states, letters, finals, rows, x, y, room, lefts, rights, parents, taken, sequence,
-    );
-    records::answers::inclusion_answer(answer)
+    let question = crate::asked(states, letters, finals, rows, x, y);
+    let mut tables = Tables {
+        lefts,
+        rights,
+        parents,
+        taken,
+        sequence,
+    };
+    let answer = inclusion::within(&question, room, &mut tables);
+    PbCompared::from(answer)
 }

@@ -2,7 +2,7 @@
 ghost use Rattle.std.specs.Prelude.{◌≡◌};
 ghost use Rattle.pressbadger.specs.Texts.{expressed_answer, ExpressedTexts};
 
-use expressions::Answer;
+use expressions::{TextFault, TextPattern};
 
 // The answer to `pb_expressions`: 7 and the pattern's numbers, or a refusal with its place and its text.
 #[repr(C)]
@@ -18,32 +18,46 @@ pub struct PbExpressed {
     pub text: u8,
 }
 
+impl From<Result<TextPattern, TextFault>> for PbExpressed {
+    ghost from_gives = { λ made r. r ≡ expressed_answer made };
+
+    fn from(made: Result<TextPattern, TextFault>) -> PbExpressed {
+        match made {
+            Ok(
+                TextPattern {
+                    states,
+                    finals,
+                    x,
+                    y,
+                },
+            ) => PbExpressed {
+                answer: 7,
+                states,
+                letters: 32,
+                finals,
+                x,
+                y,
+                place: 0,
+                text: 0,
+            },
+            Err(TextFault { fault, text }) => PbExpressed {
+                answer: u8::from(fault.why),
+                states: 0,
+                letters: 0,
+                finals: 0,
+                x: 0,
+                y: 0,
+                place: fault.place,
+                text,
+            },
+        }
+    }
+}
+
 // Makes one pattern of two texts; its rows go into `rows`.
 #[unsafe(no_mangle)]
 pub extern "C" fn pb_expressions(one: &[u8], two: &[u8], rows: &mut [u64]) -> PbExpressed
     ensures { ExpressedTexts one.now two.now rows.old result rows.new }
 {
-    let answer = expressions::expressions(one, two, rows);
-    match answer {
-        Answer::Done(states, finals, x, y) => PbExpressed {
-            answer: 7,
-            states: states,
-            letters: 32,
-            finals: finals,
-            x: x,
-            y: y,
-            place: 0,
-            text: 0,
-        },
-        Answer::Refused(number, place, text) => PbExpressed {
-            answer: number,
-            states: 0,
-            letters: 0,
-            finals: 0,
-            x: 0,
-            y: 0,
-            place: place,
-            text: text as u8,
-        },
-    }
+    PbExpressed::from(expressions::expressions(one, two, rows))
 }

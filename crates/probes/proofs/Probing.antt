@@ -1,10 +1,11 @@
 -- The two ways that a probe ends. Assumes nothing.
 use mathlib.Core.Path.{◌≡◌, refl}
 use mathlib.Core.Bool.{Bool, true, false}
+use mir.Val.{bool_byte}
 use Prim.Native.Nat.{ℕ}
 use native.Mathlib.Omega.{arith}
-use Rattle.verdict.specs.declared.Verdict.{Verdict}
-use Rattle.verdict.specs.declared.Verdict.TheVariants.{Fine, Against}
+use Rattle.verdict.specs.Verdict.{Verdict}
+use Rattle.verdict.specs.Verdict.Verdict.{Fine, Against}
 use Rattle.verdict.specs.Tests.{Decides}
 use Rattle.verdict.proofs.Ordered.{apart, one_number}
 use Rattle.probes.specs.Probes.{Probes, Says}
@@ -17,8 +18,6 @@ pub probe_refused : {test : Verdict} {w : ℕ} (Right : ℕ → Type 0) → test
 probe_refused Right e = record { done = λ p. apart p e; refused = λ u p. (one_number e p, refl) }
 
 -- a flag as a number
-pub says_yes : {A : Type 0} {flag : Bool} → Decides A flag → flag ≡ true → Says A 1
-says_yes d e = record { bound = omega arith; sound = λ p. d.sound e; complete = λ p. omega arith }
-
-pub says_no : {A : Type 0} {flag : Bool} → Decides A flag → flag ≡ false → Says A 0
-says_no d e = record { bound = omega arith; sound = λ p. absurd (omega arith); complete = λ p. d.complete e }
+pub says : {A : Type 0} {flag : Bool} → Decides A flag → Says A (bool_byte flag)
+says {flag = true} d = record { bound = omega arith; sound = λ p. d.sound refl; complete = λ p. omega arith }
+says {flag = false} d = record { bound = omega arith; sound = λ p. absurd (omega arith); complete = λ p. d.complete refl }

@@ -1,9 +1,8 @@
 -- What the probes of numbers answer.
 use Rattle.std.specs.Prelude.{◌≡◌, List, ℕ, ◌+◌, ◌≤◌, length}
 use Rattle.lent.specs.Lent.{Put}
-use Rattle.numbers.specs.Numbers.{encode}
-use Rattle.numbers.specs.declared.NumberRead.{NumberRead}
-use Rattle.numbers.specs.declared.NumberRead.TheVariants.{Done, Refused}
+use Rattle.numbers.specs.Numbers.{NumberRead, encode}
+use Rattle.numbers.specs.Numbers.NumberRead.{Done, Refused}
 use Rattle.probes.specs.declared.Probed.{Probed}
 use Rattle.probes.specs.declared.ProbedNumber.{ProbedNumber}
 

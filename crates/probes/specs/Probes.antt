@@ -1,7 +1,9 @@
 -- What the probes answer: 7 and the value, or a refusal and 0. They are for tests alone, so that inner functions can be held to a reference.
-use Rattle.std.specs.Prelude.{◌≡◌, List, [], ◌∷◌, ℕ, ◌≤◌, length, eqb, ltb}
-use Rattle.verdict.specs.declared.Verdict.{Verdict}
-use Rattle.verdict.specs.declared.Verdict.TheVariants.{Fine, Against}
+use Rattle.std.specs.Prelude.{◌≡◌, List, [], ◌∷◌, ℕ, ◌≤◌, length, eqb, ltb, Result, Ok, Err}
+use Rattle.verdict.specs.declared.Refusal.{Refusal}
+use Rattle.verdict.specs.Refusals.{number}
+use Rattle.verdict.specs.Verdict.{Verdict}
+use Rattle.verdict.specs.Verdict.Verdict.{Fine, Against}
 use Rattle.verdict.specs.Tests.{need, in_order}
 use Rattle.pattern.specs.Pattern.{Pattern, pattern_of}
 use Rattle.pattern.specs.Tests.{shape_test}
@@ -10,6 +12,11 @@ use Rattle.pattern.specs.Judge.{letter_test}
 use Rattle.congruence.specs.Congruence.{Congruent, Listed}
 use Rattle.congruence.specs.Closing.{Closes}
 use Rattle.probes.specs.declared.Probed.{Probed}
+
+-- 7 and the value, or the number of a refusal and 0
+abbrev pub probed_by : Result ℕ Refusal → Probed
+probed_by (Ok v) = record { answer = 7; value = v }
+probed_by (Err why) = record { answer = number why; value = 0 }
 
 pub record Probes (test : Verdict) (Right : ℕ → Type 0) (r : Probed) : Type 0 where
   pub done : test ≡ Fine → (r.answer ≡ 7) × Right r.value

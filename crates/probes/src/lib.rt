@@ -1,4 +1,4 @@
-// Exports for tests alone: what the host does not call.
+// Exports for tests alone: what the host does not call. Numbers and lists stand in a call one by one: the C interface.
 #![tactic(auto)]
 
 ghost use Rattle.std.specs.Prelude.{◌≡◌, ◌^◌};
@@ -6,14 +6,20 @@ ghost use Rattle.std.specs.Int.Bits.{bit_or};
 ghost use Rattle.verdict.specs.Tests.{Decides};
 ghost use Rattle.sets.specs.Sets.{Within, meets};
 ghost use Rattle.pattern.specs.Pattern.{pattern_of};
+ghost use Rattle.pattern.specs.Lent.{pattern_in};
 ghost use Rattle.pattern.specs.Tests.{pattern_test};
+ghost use Rattle.pattern.specs.Language as Language;
 ghost use Rattle.numbers.specs.Numbers.{read_at};
-ghost use Rattle.probes.specs.Probes.{Probes, ProbesNext, ProbesClosing, ProbesCongruence, state_test};
+ghost use Rattle.numbers.specs.Told.{told_read};
+ghost use Rattle.probes.specs.Probes.{probed_by, Probes, ProbesNext, ProbesClosing, ProbesCongruence, state_test, next_test};
 ghost use Rattle.probes.specs.Numbers.{probed_number, WritesNumber};
 
-use numbers::NumberRead;
+use congruence::Pairs;
+use lent::Page;
+use numbers::Taken;
+use pattern::{Pattern, Shaped};
 use sets::States;
-use verdict::Verdict;
+use verdict::{Fault, Refusal};
 
 // 7 and a value, or a refusal and 0.
 #[repr(C)]
@@ -21,6 +27,20 @@ use verdict::Verdict;
 pub struct Probed {
     pub answer: u8,
     pub value: u64,
+}
+
+impl From<Result<u64, Refusal>> for Probed {
+    ghost from_gives = { λ probed r. r ≡ probed_by probed };
+
+    fn from(probed: Result<u64, Refusal>) -> Probed {
+        match probed {
+            Ok(value) => Probed { answer: 7, value },
+            Err(why) => Probed {
+                answer: u8::from(why),
+                value: 0,
+            },
+        }
+    }
 }
 
 // 7 with a number and how many bytes it took, or a fault with its place; the rest is 0.
@@ -31,6 +51,27 @@ pub struct ProbedNumber {
     pub value: u64,
     pub took: usize,
     pub place: usize,
+}
+
+impl From<Result<Taken, Fault>> for ProbedNumber {
+    ghost from_gives = { λ number r. r ≡ probed_number (told_read number) };
+
+    fn from(number: Result<Taken, Fault>) -> ProbedNumber {
+        match number {
+            Ok(Taken { value, took }) => ProbedNumber {
+                answer: 7,
+                value,
+                took,
+                place: 0,
+            },
+            Err(Fault { why, place }) => ProbedNumber {
+                answer: u8::from(why),
+                value: 0,
+                took: 0,
+                place,
+            },
+        }
+    }
 }
 
 #[unsafe(no_mangle)]
@@ -60,17 +101,9 @@ pub extern "C" fn probe_single(s: usize) -> Probed
     ensures { Probes (state_test s) (λ v. v ≡ 2 ^ s) result }
 {
     if s < 64 {
-        let single = States::single(s);
-        let mask = single.mask;
-        return Probed {
-            answer: 7,
-            value: mask,
-        };
+        return Probed::from(Ok(States::single(s).mask));
     }
-    Probed {
-        answer: 12,
-        value: 0,
-    }
+    Probed::from(Err(Refusal::BadSet))
 }
 
 // What is against a pattern.
@@ -78,17 +111,13 @@ pub extern "C" fn probe_single(s: usize) -> Probed
 pub extern "C" fn probe_pattern(states: usize, letters: usize, finals: u64, rows: &[u64]) -> Probed
     ensures { Probes (pattern_test (pattern_of states letters finals rows.now)) (λ v. v ≡ 0) result }
 {
-    let test = pattern::pattern_test(states, letters, finals, rows);
-    match test {
-        Verdict::Fine => Probed {
-            answer: 7,
-            value: 0,
-        },
-        Verdict::Against(number) => Probed {
-            answer: number,
-            value: 0,
-        },
-    }
+    let pattern = Pattern {
+        states,
+        letters,
+        finals,
+        rows,
+    };
+    Probed::from(pattern.pattern_test().map(|_| 0))
 }
 
 // The set that a letter takes a set to.
@@ -102,24 +131,23 @@ pub extern "C" fn probe_next(
 ) -> Probed
     ensures { ProbesNext states letters rows.now set letter result }
 {
-    let shape = pattern::shape_test(states, letters, rows);
-    if let Verdict::Against(number) = shape {
-        return Probed {
-            answer: number,
-            value: 0,
-        };
-    }
-    let taken = letter as usize;
-    if taken < letters {
-        return Probed {
-            answer: 7,
-            value: pattern::next(states, letters, rows, set, taken),
-        };
-    }
-    Probed {
-        answer: 15,
-        value: 0,
-    }
+    let pattern = Pattern {
+        states,
+        letters,
+        finals: 0,
+        rows,
+    };
+    Probed::from(next(&pattern, set, usize::from(letter)))
+}
+
+// The same of a pattern of the code.
+fn next(pattern: &Pattern, set: u64, letter: usize) -> Result<u64, Refusal>
+    ensures { Probes (next_test (pattern_in pattern.now) letter) (λ v. v ≡ Language.next (pattern_in pattern.now) set letter) (probed_by result) }
+{
+    pattern.shape_test()?;
+    verdict::need(letter < pattern.letters, Refusal::BadLetter)?;
+    let shaped = Shaped { pattern: *pattern };
+    Ok(shaped.next(set, letter))
 }
 
 // A set closed by a list of pairs.
@@ -127,16 +155,11 @@ pub extern "C" fn probe_next(
 pub extern "C" fn probe_close(lefts: &[u64], rights: &[u64], set: u64) -> Probed
     ensures { ProbesClosing lefts.now rights.now set result }
 {
-    if lefts.len() == rights.len() {
-        return Probed {
-            answer: 7,
-            value: congruence::close(lefts, rights, set),
-        };
+    if lefts.len() != rights.len() {
+        return Probed::from(Err(Refusal::BadList));
     }
-    Probed {
-        answer: 16,
-        value: 0,
-    }
+    let pairs = Pairs { lefts, rights };
+    Probed::from(Ok(pairs.close(set)))
 }
 
 // Whether two sets are congruent by a list of pairs: 1 or 0.
@@ -144,22 +167,11 @@ pub extern "C" fn probe_close(lefts: &[u64], rights: &[u64], set: u64) -> Probed
 pub extern "C" fn probe_congruent(lefts: &[u64], rights: &[u64], a: u64, b: u64) -> Probed
     ensures { ProbesCongruence lefts.now rights.now a b result }
 {
-    if lefts.len() == rights.len() {
-        if congruence::congruent(lefts, rights, a, b) {
-            return Probed {
-                answer: 7,
-                value: 1,
-            };
-        }
-        return Probed {
-            answer: 7,
-            value: 0,
-        };
+    if lefts.len() != rights.len() {
+        return Probed::from(Err(Refusal::BadList));
     }
-    Probed {
-        answer: 16,
-        value: 0,
-    }
+    let pairs = Pairs { lefts, rights };
+    Probed::from(Ok(u64::from(pairs.congruent(a, b))))
 }
 
 // The number at a place of some bytes.
@@ -167,21 +179,7 @@ pub extern "C" fn probe_congruent(lefts: &[u64], rights: &[u64], a: u64, b: u64)
 pub extern "C" fn probe_read_number(bytes: &[u8], at: usize) -> ProbedNumber
     ensures { result ≡ probed_number (read_at bytes.now at) }
 {
-    let number = numbers::read(bytes, at);
-    match number {
-        NumberRead::Done(value, took) => ProbedNumber {
-            answer: 7,
-            value: value,
-            took: took,
-            place: 0,
-        },
-        NumberRead::Refused(why, place) => ProbedNumber {
-            answer: why,
-            value: 0,
-            took: 0,
-            place: place,
-        },
-    }
+    ProbedNumber::from(numbers::read(bytes, at))
 }
 
 // A number put at a place of a lent buffer: 7 and the place after it, or 14 where it does not fit.
@@ -190,21 +188,10 @@ pub extern "C" fn probe_write_number(out: &mut [u8], at: usize, value: u64) -> P
     ensures { WritesNumber out.old at value result out.new }
 {
     let size = numbers::size(value);
-    if out.len() < at {
-        return Probed {
-            answer: 14,
-            value: 0,
-        };
+    if out.len() < at || out.len() - at < size {
+        return Probed::from(Err(Refusal::NoRoom));
     }
-    if out.len() - at < size {
-        return Probed {
-            answer: 14,
-            value: 0,
-        };
-    }
-    let next = numbers::write(out, at, value);
-    Probed {
-        answer: 7,
-        value: next as u64,
-    }
+    let mut page = Page { out, at };
+    numbers::write(&mut page, value);
+    Probed::from(Ok(page.at as u64))
 }

@@ -9,11 +9,10 @@ use Rattle.lent.specs.Lent.{lay}
 use Rattle.walk.specs.Walk.{Question, Record, kept_of, word_of}
 use Rattle.walk.specs.Columns.{Field, value, column, firsts}
 use Rattle.walk.proofs.Columns.{column_by, record_path, columns_path}
-use Rattle.comparison.specs.Answers.{Lent, answer_of, lay_out, Compared}
+use Rattle.std.specs.Prelude.{Err}
+use Rattle.comparison.specs.Answers.{Answered, Lent, answer_of, lay_out, Compared}
 use Rattle.comparison.specs.Answers.Compared.{refuses, walks}
-use Rattle.comparison.specs.declared.Answer.{Answer}
-use Rattle.comparison.specs.Inclusion.{inclusion_of, Included}
-use Rattle.comparison.specs.declared.inclusion.Inclusion.{Inclusion}
+use Rattle.comparison.specs.Inclusion.{AnsweredOneWay, answered_one_way, Included}
 use Rattle.comparison.proofs.Standing.{lent_path}
 use Rattle.comparison.proofs.CompareDetermined.{compare_determined}
 use Rattle.comparison.proofs.WithinDetermined.{within_determined}
@@ -88,7 +87,7 @@ lent_laid kept word records sequence =
 -- what the call over records answers and leaves is what the call over its columns does
 pub pb_compare_by_columns : {Q : Question} {room : ℕ} {records : List PbRecord} {sequence : List ℕ} {r : PbCompared} {later : List PbRecord} {word : List ℕ}
     → ComparedRecords Q room records sequence r later word → ComparedLists (call_on Q room records sequence) r (lent_for later word)
-pb_compare_by_columns (ComparedRecords.refuses {number} e) = record { answer = Answer.Refused number; compared = refuses e; answers = refl }
+pb_compare_by_columns (ComparedRecords.refuses why e) = record { answer = Err why; compared = refuses e; answers = refl }
 pb_compare_by_columns {Q} {room} {records} {sequence} (ComparedRecords.walks {o} e w) =
     record {
       answer = answer_of o;
@@ -97,9 +96,9 @@ pb_compare_by_columns {Q} {room} {records} {sequence} (ComparedRecords.walks {o}
     }
 
 -- and the call over records can answer and leave whatever the call over its columns can
-pub pb_compare_from_columns : {Q : Question} {room : ℕ} {records : List PbRecord} {sequence : List ℕ} {a : Answer} {left : Lent}
+pub pb_compare_from_columns : {Q : Question} {room : ℕ} {records : List PbRecord} {sequence : List ℕ} {a : Answered} {left : Lent}
     → Compared (call_on Q room records sequence) a left → (later : List PbRecord) × (word : List ℕ) × ComparedRecords Q room records sequence (compare_answer a) later word
-pb_compare_from_columns {records = records} {sequence} (refuses e) = (records, sequence, ComparedRecords.refuses e)
+pb_compare_from_columns {records = records} {sequence} (refuses {why} e) = (records, sequence, ComparedRecords.refuses why e)
 pb_compare_from_columns {records = records} {sequence} (walks {o} e w) = (lay_records (kept_of o) records, lay (word_of o) sequence, ComparedRecords.walks e w)
 
 -- the same answer and numbers as over the columns, and the columns of the records afterwards are what is left there
@@ -114,17 +113,17 @@ pb_compare_agrees e c =
 
 pub pb_within_by_columns : {Q : Question} {room : ℕ} {records : List PbRecord} {sequence : List ℕ} {r : PbCompared} {later : List PbRecord} {word : List ℕ}
     → IncludedRecords Q room records sequence r later word → IncludedLists (call_on Q room records sequence) r (lent_for later word)
-pb_within_by_columns (IncludedRecords.refuses {number} e) = record { answer = Inclusion.Refused number; included = Included.refuses e; answers = refl }
+pb_within_by_columns (IncludedRecords.refuses why e) = record { answer = Err why; included = Included.refuses e; answers = refl }
 pb_within_by_columns {Q} {room} {records} {sequence} (IncludedRecords.walks {o} e w) =
     record {
-      answer = inclusion_of (answer_of o);
-      included = subst (Included (call_on Q room records sequence) (inclusion_of (answer_of o))) (sym (lent_laid (kept_of o) (word_of o) records sequence)) (Included.walks e w);
+      answer = answered_one_way (answer_of o);
+      included = subst (Included (call_on Q room records sequence) (answered_one_way (answer_of o))) (sym (lent_laid (kept_of o) (word_of o) records sequence)) (Included.walks e w);
       answers = refl;
     }
 
-pub pb_within_from_columns : {Q : Question} {room : ℕ} {records : List PbRecord} {sequence : List ℕ} {a : Inclusion} {left : Lent}
+pub pb_within_from_columns : {Q : Question} {room : ℕ} {records : List PbRecord} {sequence : List ℕ} {a : AnsweredOneWay} {left : Lent}
     → Included (call_on Q room records sequence) a left → (later : List PbRecord) × (word : List ℕ) × IncludedRecords Q room records sequence (inclusion_answer a) later word
-pb_within_from_columns {records = records} {sequence} (Included.refuses e) = (records, sequence, IncludedRecords.refuses e)
+pb_within_from_columns {records = records} {sequence} (Included.refuses {why} e) = (records, sequence, IncludedRecords.refuses why e)
 pb_within_from_columns {records = records} {sequence} (Included.walks {o} e w) = (lay_records (kept_of o) records, lay (word_of o) sequence, IncludedRecords.walks e w)
 
 pub pb_within_agrees : {Q : Question} {room : ℕ} {records : List PbRecord} {sequence : List ℕ} {r s : PbCompared} {later : List PbRecord} {word : List ℕ} {left : Lent}

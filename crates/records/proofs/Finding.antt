@@ -7,8 +7,10 @@ use native.Mathlib.Decide.{dec_le}
 use lib.ListN.{length, get_or, set, take, replicate, length-map, get_or-map}
 use lib.Seq.{take-suc, take-length, length-take-le}
 use Rattle.std.proofs.lemmas.List.{length-replicate}
-use Rattle.verdict.specs.declared.Verdict.{Verdict}
-use Rattle.verdict.specs.declared.Verdict.TheVariants.{Fine, Against}
+use Rattle.std.specs.Prelude.{Err}
+use Rattle.verdict.specs.declared.Refusal.{Refusal}
+use Rattle.verdict.specs.Verdict.{Verdict}
+use Rattle.verdict.specs.Verdict.Verdict.{Fine, Against}
 use Rattle.verdict.specs.Tests.{in_order, Among}
 use Rattle.verdict.proofs.Numbered.{among_need, among_each}
 use Rattle.lent.specs.Lent.{lay}
@@ -18,22 +20,21 @@ use Rattle.pattern.specs.Tests.{set_test, shape_test, masks_test}
 use Rattle.walk.specs.Walk.{Question, Record, Outcome, kept_of, word_of, Walk}
 use Rattle.walk.specs.Walk.Outcome.{Same, Different, Full}
 use Rattle.walk.specs.Columns.{Field, value, record_by, Columns, columns_by, column, record_at, lay_columns, Fit}
-use Rattle.walk.proofs.Columns.{value_by, record_path, fit_at, fit_by}
+use Rattle.walk.proofs.Columns.{value_by, record_path, fit_at, fit_by, fit_less}
 use Rattle.walk.specs.Meaning.{Settled}
 use Rattle.walk.proofs.Counts.{counts}
 use Rattle.walk.proofs.MoreRoom.{more_room}
-use Rattle.comparison.specs.Answers.{number_of, Lent, Call, room_test, compare_test, answer_of, Compared}
+use Rattle.comparison.specs.Answers.{Answered, number_of, Lent, Call, room_test, compare_test, answer_of, Compared}
 use Rattle.comparison.specs.Answers.Compared.{refuses, walks}
 use Rattle.comparison.specs.Meaning.{Roomy}
-use Rattle.comparison.specs.declared.Answer.{Answer}
 use Rattle.comparison.proofs.Asking.{room_fine, compare_fine, refusal_number}
-use Rattle.comparison.proofs.Standing.{laid}
+use Rattle.comparison.proofs.Standing.{laid, laid_long}
 use Rattle.comparison.proofs.CompareRoom.{kept_is}
 use Rattle.records.specs.declared.PbRecord.{PbRecord}
 use Rattle.records.specs.declared.answers.PbCompared.{PbCompared}
 use Rattle.records.specs.Answers.{compare_answer}
 use Rattle.records.specs.Records.{written, lent_for, call_on, lay_records, ComparedRecords}
-use Rattle.records.specs.Inner.{filled, Granted, Asked}
+use Rattle.records.specs.Inner.{filled, Granted, Asked, Tried}
 use Rattle.records.proofs.Agreeing.{column_in}
 
 -- ---- the records that are written
@@ -97,6 +98,7 @@ by_13 room lent = among_each _ _ (λ most. among_need _ _ 13 (Memᴰ.head refl))
 pub record Found (Q : Question) (room places : ℕ) (records : List PbRecord) (sequence : List ℕ) (k : PbCompared) (l : Lent) : Type 0 where
   pub most : k.kept ≤ places
   pub within : k.kept ≤ length records
+  pub fits : Fit k.kept l.columns
   pub answered : (places < room → k.answer ≡ 2 → ⊥) → ComparedRecords Q room records sequence k (filled l.columns records k.kept) l.sequence
   pub full : places < room → k.answer ≡ 2 → (room ≤ max_room) × (l.sequence ≡ sequence)
 
@@ -175,12 +177,13 @@ module _ (Q : Question) (room places : ℕ) (records : List PbRecord) (asks : �
       cases (yes p) = rw (ask.whole g p) at w
       cases (no p) = more_room room (asked_most g).1 (settled_else o (n (omega (arith, p)))) w
 
-  found : {a : Answer} {l : Lent} → Compared inner a l → Found Q room places records sequence (compare_answer a) l
-  found (refuses e) =
+  found : {a : Answered} {l : Lent} → Compared inner a l → Found Q room places records sequence (compare_answer a) l
+  found (refuses {why} e) =
       record {
         most = omega arith;
         within = omega arith;
-        answered = λ n. ComparedRecords.refuses (sym tests_alike ∙ e);
+        fits = fit_by (λ x. omega arith);
+        answered = λ n. ComparedRecords.refuses why (sym tests_alike ∙ e);
         full = λ h z. absurd (omega (arith, refusal_number inner e, z));
       }
   found (walks {o} e w) =
@@ -194,12 +197,25 @@ module _ (Q : Question) (room places : ℕ) (records : List PbRecord) (asks : �
       record {
         most = omega (arith, kept, fits, some);
         within = omega (arith, kept, fits, less, g.records_fit);
+        fits = fit_by (λ x. omega (arith, kept, fits, some, fit_at (zeros_fit places) x, laid_long (kept_of o) (zeros places) (fit_less (omega (arith, fits, some)) (zeros_fit places)) x));
         answered = λ n. rw all (ComparedRecords.walks (sym tests_alike ∙ e) (walk_asked g w n));
         full = λ h z. (g.most, full_says o sequence z);
       }
 
--- the same, by the answer as a host reads it
-pub finding : {Q : Question} {room places : ℕ} {records : List PbRecord} {asks : ℕ} {sequence : List ℕ} {a : Answer} {l : Lent} {k : PbCompared} → k ≡ compare_answer a
+pub finding : {Q : Question} {room places : ℕ} {records : List PbRecord} {asks : ℕ} {sequence : List ℕ} {a : Answered} {l : Lent}
     → Compared (record { question = Q; room = asks; lent = own places sequence }) a l → Asked room places (length records) (length sequence) asks
-    → Found Q room places records sequence k l
-finding e z ask = rw e (found _ _ _ _ _ _ ask z)
+    → Found Q room places records sequence (compare_answer a) l
+finding z ask = found _ _ _ _ _ _ ask z
+
+-- a refusal writes nothing
+pub refused_tried : {Q : Question} {room places : ℕ} {records : List PbRecord} {asks : ℕ} {sequence : List ℕ} {why : Refusal} {l : Lent}
+    → Compared (record { question = Q; room = asks; lent = own places sequence }) (Err why) l → Asked room places (length records) (length sequence) asks
+    → Tried Q room places records sequence (compare_answer (Err why)) records l.sequence
+refused_tried z ask =
+    let k = finding z ask in
+    record { answered = k.answered; full = λ h e. let (most, same) = k.full h e in (most, refl, same) }
+
+-- what is left behind the sequence that was lent is what stands in the tables
+pub tried_word : {Q : Question} {room places : ℕ} {records : List PbRecord} {sequence : List ℕ} {r : PbCompared} {later : List PbRecord} {word word' : List ℕ} → word' ≡ word
+    → Tried Q room places records sequence r later word → Tried Q room places records sequence r later word'
+tried_word e t = rw e t

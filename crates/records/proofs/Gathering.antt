@@ -7,8 +7,8 @@ use native.Mathlib.Decide.{dec_le}
 use borrow.Author.Tests.{lt-leb}
 use lib.ListN.{length, take, length-map}
 use lib.Seq.{take_all, length-take-le}
-use Rattle.verdict.specs.declared.Verdict.{Verdict}
-use Rattle.verdict.specs.declared.Verdict.TheVariants.{Fine, Against}
+use Rattle.verdict.specs.Verdict.{Verdict}
+use Rattle.verdict.specs.Verdict.Verdict.{Fine, Against}
 use Rattle.verdict.specs.Tests.{in_order}
 use Rattle.verdict.proofs.Ordered.{apart, need_fails, order_fine}
 use Rattle.pattern.specs.Tests.{shape_test}
@@ -16,11 +16,13 @@ use Rattle.pattern.specs.Pattern.{Pattern}
 use Rattle.sets.specs.Rooms.{max_room}
 use Rattle.walk.specs.Columns.{Field}
 use Rattle.evidence.specs.Evidence.{Offer, list_test, check_test, Checked}
+use Rattle.std.specs.Prelude.{Result}
+use Rattle.verdict.specs.declared.Refusal.{Refusal}
+use Rattle.walk.specs.Walk.{Question}
 use Rattle.evidence.specs.declared.Answer.{Answer}
 use Rattle.evidence.specs.Evidence.Checked.{refuses, not_started, started}
 use Rattle.records.specs.declared.PbRecord.{PbRecord}
-use Rattle.records.specs.declared.answers.PbChecked.{PbChecked}
-use Rattle.records.specs.Answers.{CheckedOffer}
+use Rattle.records.specs.Offers.{offer_for}
 use Rattle.records.specs.Records.{value_in, columns_in}
 use Rattle.records.specs.Inner.{Shown, Gathers}
 
@@ -53,7 +55,7 @@ module _ (P : Pattern) (x y : ℕ) (ls rs ls' rs' : List ℕ) (same : length ls 
   unfolding check_test
   never_fine e = apart ((order_fine _).0 e).1.0 long_left
 
-  checked_alike : {a : Answer} → Checked (offer P x y ls rs) a → Checked (offer P x y ls' rs') a
+  checked_alike : {a : Result Answer Refusal} → Checked (offer P x y ls rs) a → Checked (offer P x y ls' rs') a
   checked_alike (refuses e) = refuses (sym refused_alike ∙ e)
   checked_alike (not_started e f) = absurd (never_fine e)
   checked_alike (started e f g) = absurd (never_fine e)
@@ -63,12 +65,12 @@ abbrev all : Pattern → ℕ → ℕ → List PbRecord → Offer
 all P x y records = offer P x y (columns_in records).lefts (columns_in records).rights
 
 -- the check of what is looked at of it is the check of it
-pub checks_shown : (P : Pattern) (x y : ℕ) (records : List PbRecord) (n : ℕ) (lefts rights : List ℕ) {r : PbChecked} → Shown (length records) n → Gathers records n lefts rights
-    → CheckedOffer (offer P x y (take n lefts) (take n rights)) r → CheckedOffer (all P x y records) r
-checks_shown P x y records n lefts rights {r} s g k = record { answer = k.answer; checked = cases (dec_le (length records) max_room); answers = k.answers }
+pub checks_shown : (Q : Question) (records : List PbRecord) (n : ℕ) (lefts rights : List ℕ) {a : Result Answer Refusal} → Shown (length records) n → Gathers records n lefts rights
+    → Checked (offer Q.pattern Q.left Q.right (take n lefts) (take n rights)) a → Checked (offer_for Q (columns_in records)) a
+checks_shown Q records n lefts rights {a} s g k = cases (dec_le (length records) max_room)
   where
-    front : Checked (offer P x y (take n (columns_in records).lefts) (take n (columns_in records).rights)) k.answer
-    front = rw (← g.lefts_are, ← g.rights_are) k.checked
+    front : Checked (offer Q.pattern Q.left Q.right (take n (columns_in records).lefts) (take n (columns_in records).rights)) a
+    front = rw (← g.lefts_are, ← g.rights_are) k
 
     lefts_long : length (columns_in records).lefts ≡ length records
     lefts_long = length-map records (value_in Field.left)
@@ -76,7 +78,7 @@ checks_shown P x y records n lefts rights {r} s g k = record { answer = k.answer
     rights_long : length (columns_in records).rights ≡ length records
     rights_long = length-map records (value_in Field.right)
 
-    cases : Dec (length records ≤ max_room) → Checked (all P x y records) k.answer
+    cases : Dec (length records ≤ max_room) → Checked (offer_for Q (columns_in records)) a
     cases (yes p) =
         let e = s.whole p in
         rw (take_all n (columns_in records).lefts (omega (arith, e, lefts_long)), take_all n (columns_in records).rights (omega (arith, e, rights_long))) at front
@@ -84,4 +86,4 @@ checks_shown P x y records n lefts rights {r} s g k = record { answer = k.answer
         let e = s.long (omega (arith, p)) in
         let a = length-take-le n (columns_in records).lefts (omega (arith, e, p, lefts_long)) in
         let b = length-take-le n (columns_in records).rights (omega (arith, e, p, rights_long)) in
-        checked_alike P x y _ _ _ _ (a ∙ sym b) (lefts_long ∙ sym rights_long) (omega (arith, a, e)) (omega (arith, p, lefts_long)) front
+        checked_alike Q.pattern Q.left Q.right _ _ _ _ (a ∙ sym b) (lefts_long ∙ sym rights_long) (omega (arith, a, e)) (omega (arith, p, lefts_long)) front

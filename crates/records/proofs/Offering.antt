@@ -19,13 +19,14 @@ use Rattle.walk.proofs.Sound.{Reached, Sound, walk_sound}
 use Rattle.walk.proofs.SameMeansSame.{same_progress}
 use Rattle.walk.proofs.Counts.{counts}
 use Rattle.comparison.specs.Answers as Comparison
-use Rattle.comparison.specs.Answers.{values_of, Lent, Call, Compared}
+use Rattle.comparison.specs.Answers.{Answered, values_of, Lent, Call, Compared}
 use Rattle.comparison.specs.Answers.Compared.{refuses, walks}
-use Rattle.comparison.specs.declared.Answer as Comparison'
 use Rattle.comparison.proofs.Asking.{compare_fine, refusal_number}
 use Rattle.comparison.proofs.Standing.{firsts_laid}
 use Rattle.evidence.specs.Evidence.{ValidOffer, Checked}
 use Rattle.evidence.specs.Meaning.{Holding}
+use Rattle.std.specs.Prelude.{Result, Ok}
+use Rattle.verdict.specs.declared.Refusal.{Refusal}
 use Rattle.evidence.specs.declared.Answer.{Answer}
 use Rattle.evidence.specs.declared.Answer.TheVariants.{Proved}
 use Rattle.evidence.proofs.CheckHonest.{holding_proved}
@@ -72,14 +73,14 @@ module _ {Q : Question} (proper : Proper Q) {room : ℕ} (most : room ≤ max_ro
       record { starts = start; pairs = λ j h. progress.each _ _ (record { at = j; below = h; left = refl; right = refl }) }
 
   -- the records that SAME left, as they are, are PROVED
-  pub same_is_proved : Checked (offer_for Q (columns_of kept)) Proved
+  pub same_is_proved : Checked (offer_for Q (columns_of kept)) (Ok Proved)
   same_is_proved = holding_proved _ offer_good records_hold
 
 -- ---- the calls
 
 -- where `compare` answered SAME, `check` answers PROVED to the first `kept` places of what it was lent
-pub compare_same_is_proved : {c : Call} {a : Comparison'.Answer} {later : Lent} {b : Answer} → Compared c a later → Comparison.number_of a ≡ 0
-    → Checked (offer_for c.question (firsts (values_of a).kept later.columns)) b → b ≡ Proved
+pub compare_same_is_proved : {c : Call} {a : Answered} {later : Lent} {b : Result Answer Refusal} → Compared c a later → Comparison.number_of a ≡ 0
+    → Checked (offer_for c.question (firsts (values_of a).kept later.columns)) b → b ≡ Ok Proved
 compare_same_is_proved {c} (refuses e) z k = absurd (omega (arith, refusal_number c e, z))
 compare_same_is_proved {c} {b = b} (walks {o = Same kept e} f w) z k =
     let (proper, fits) = (compare_fine c).0 f in

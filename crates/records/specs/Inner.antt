@@ -1,12 +1,14 @@
 -- What the contracts of the functions beneath the exports cite. No promise to a host rests on this file.
 --   Asked        the room that is asked for in tables of so many places, where the list has so many records and the sequence so many bytes
 --   Tried        the comparison in tables of so many places
---   as_columns   four lists of numbers as columns; filled: the first of their records written over a list
+--   columns_lent   the columns of a comparison's tables; filled: the first of their records written over a list
 --   Shown        how many records of a list are looked at; Gathers: the sides of so many
 use Rattle.std.specs.Prelude.{◌≡◌, List, ℕ, zero, suc, ◌+◌, ◌≤◌, ◌<◌, set, take}
 use Rattle.sets.specs.Rooms.{max_room}
 use Rattle.walk.specs.Walk.{Question}
 use Rattle.walk.specs.Columns.{Columns, record_at}
+use Rattle.comparison.specs.Answers.{lent_in}
+use Rattle.comparison.specs.declared.Tables.{Tables}
 use Rattle.records.specs.declared.PbRecord.{PbRecord}
 use Rattle.records.specs.declared.answers.PbCompared.{PbCompared}
 use Rattle.records.specs.Records.{written, columns_in, ComparedRecords}
@@ -28,8 +30,8 @@ pub record Tried (Q : Question) (room places : ℕ) (records : List PbRecord) (s
   pub answered : (places < room → r.answer ≡ 2 → ⊥) → ComparedRecords Q room records sequence r later word
   pub full : places < room → r.answer ≡ 2 → (room ≤ max_room) × (later ≡ records) × (word ≡ sequence)
 
-abbrev pub as_columns : List ℕ → List ℕ → List ℕ → List ℕ → Columns
-as_columns lefts rights parents taken = record { lefts = lefts; rights = rights; parents = parents; taken = taken }
+abbrev pub columns_lent : Tables → Columns
+columns_lent t = (lent_in t).columns
 
 abbrev pub filled : Columns → List PbRecord → ℕ → List PbRecord
 filled columns records zero = records

@@ -6,16 +6,16 @@
 --   ComparedRecords     the answer, the records and the sequence: one result for every call (`pb_compare_determined`), the same as over columns
 --                       (`pb_compare_by_columns`, `pb_compare_agrees`)
 --   IncludedRecords     the same of the one-way question (`pb_within_determined`, `pb_within_by_columns`, `pb_within_agrees`)
-use Rattle.std.specs.Prelude.{◌≡◌, List, map, ℕ}
-use Rattle.verdict.specs.declared.Verdict.TheVariants.{Fine, Against}
+use Rattle.std.specs.Prelude.{◌≡◌, List, map, ℕ, Err}
+use Rattle.verdict.specs.declared.Refusal.{Refusal}
+use Rattle.verdict.specs.Refusals.{number}
+use Rattle.verdict.specs.Verdict.Verdict.{Fine, Against}
 use Rattle.lent.specs.Lent.{lay}
 use Rattle.walk.specs.Walk.{Question, Record, Outcome, kept_of, word_of, Walk}
 use Rattle.walk.specs.Columns.{Field, value, Columns, columns_by}
 use Rattle.walk.specs.Inclusion.{joined}
 use Rattle.comparison.specs.Answers.{Lent, Call, compare_test, answer_of}
-use Rattle.comparison.specs.declared.Answer.{Answer}
-use Rattle.comparison.specs.Inclusion.{inclusion_of}
-use Rattle.comparison.specs.declared.inclusion.Inclusion.{Inclusion}
+use Rattle.comparison.specs.Inclusion.{answered_one_way}
 use Rattle.records.specs.declared.PbRecord.{PbRecord}
 use Rattle.records.specs.declared.answers.PbCompared.{PbCompared}
 use Rattle.records.specs.Answers.{compare_answer, inclusion_answer}
@@ -43,14 +43,14 @@ lay_records kept old = lay (map written kept) old
 
 -- a refusal changes nothing that is lent; any other answer is the walk's outcome
 pub data ComparedRecords (Q : Question) (room : ℕ) (records : List PbRecord) (sequence : List ℕ) : PbCompared → List PbRecord → List ℕ → Type 0 where
-  refuses : {number : ℕ} → compare_test (call_on Q room records sequence) ≡ Against number
-      → ComparedRecords Q room records sequence (compare_answer (Answer.Refused number)) records sequence
+  refuses : (why : Refusal) → compare_test (call_on Q room records sequence) ≡ Against (number why)
+      → ComparedRecords Q room records sequence (compare_answer (Err why)) records sequence
   walks : {o : Outcome} → compare_test (call_on Q room records sequence) ≡ Fine → Walk Q room o
       → ComparedRecords Q room records sequence (compare_answer (answer_of o)) (lay_records (kept_of o) records) (lay (word_of o) sequence)
 
 -- a refusal is the comparison's, of X and Y as given, and changes nothing that is lent; any other answer is the outcome of the walk of X+Y and Y
 pub data IncludedRecords (Q : Question) (room : ℕ) (records : List PbRecord) (sequence : List ℕ) : PbCompared → List PbRecord → List ℕ → Type 0 where
-  refuses : {number : ℕ} → compare_test (call_on Q room records sequence) ≡ Against number
-      → IncludedRecords Q room records sequence (inclusion_answer (Inclusion.Refused number)) records sequence
+  refuses : (why : Refusal) → compare_test (call_on Q room records sequence) ≡ Against (number why)
+      → IncludedRecords Q room records sequence (inclusion_answer (Err why)) records sequence
   walks : {o : Outcome} → compare_test (call_on Q room records sequence) ≡ Fine → Walk (joined Q) room o
-      → IncludedRecords Q room records sequence (inclusion_answer (inclusion_of (answer_of o))) (lay_records (kept_of o) records) (lay (word_of o) sequence)
+      → IncludedRecords Q room records sequence (inclusion_answer (answered_one_way (answer_of o))) (lay_records (kept_of o) records) (lay (word_of o) sequence)

@@ -1,10 +1,11 @@
 // The answers as a host reads them: the scope's number of each (§7), and the numbers returned with it.
 ghost use Rattle.std.specs.Prelude.{◌≡◌};
-ghost use Rattle.records.specs.Answers.{compare_answer, inclusion_answer, as_within, check_answer};
+ghost use Rattle.records.specs.Answers.{compare_answer, inclusion_answer, check_answer};
 
 use comparison::Answer as Compared;
 use comparison::inclusion::Inclusion;
 use evidence::Answer as Checked;
+use verdict::Refusal;
 
 // The answer to a comparison, and to the one-way question.
 #[repr(C)]
@@ -20,47 +21,49 @@ fn counted(answer: u8, kept: usize, examined: usize, length: usize) -> PbCompare
     ensures { result ≡ record { answer = answer; kept = kept; examined = examined; length = length } }
 {
     PbCompared {
-        answer: answer,
-        kept: kept,
-        examined: examined,
-        length: length,
+        answer,
+        kept,
+        examined,
+        length,
     }
 }
 
-pub fn compare_answer(answer: Compared) -> PbCompared
-    ensures { result ≡ compare_answer answer }
-{
-    match answer {
-        Compared::Same(kept, examined) => counted(0, kept, examined, 0),
-        Compared::Different(kept, examined, length) => counted(1, kept, examined, length),
-        Compared::Full(kept, examined) => counted(2, kept, examined, 0),
-        Compared::Refused(number) => counted(number, 0, 0, 0),
+impl From<Result<Compared, Refusal>> for PbCompared {
+    ghost from_gives = { λ answer r. r ≡ compare_answer answer };
+
+    fn from(answer: Result<Compared, Refusal>) -> PbCompared {
+        match answer {
+            Ok(Compared::Same { kept, examined }) => counted(0, kept, examined, 0),
+            Ok(
+                Compared::Different {
+                    kept,
+                    examined,
+                    length,
+                },
+            ) => counted(1, kept, examined, length),
+            Ok(Compared::Full { kept, examined }) => counted(2, kept, examined, 0),
+            Err(why) => counted(u8::from(why), 0, 0, 0),
+        }
     }
 }
 
-pub fn inclusion_answer(answer: Inclusion) -> PbCompared
-    ensures { result ≡ inclusion_answer answer }
-{
-    match answer {
-        Inclusion::Within(kept, examined) => counted(8, kept, examined, 0),
-        Inclusion::NotWithin(kept, examined, length) => counted(9, kept, examined, length),
-        Inclusion::Full(kept, examined) => counted(2, kept, examined, 0),
-        Inclusion::Refused(number) => counted(number, 0, 0, 0),
-    }
-}
+impl From<Result<Inclusion, Refusal>> for PbCompared {
+    ghost from_gives = { λ answer r. r ≡ inclusion_answer answer };
 
-// The answer to the one-way question, by that of the comparison of X+Y with Y: WITHIN for SAME, NOT-WITHIN for DIFFERENT.
-pub fn one_way(compared: PbCompared) -> PbCompared
-    ensures { result ≡ as_within compared }
-{
-    let answer = if compared.answer == 0 {
-        8
-    } else if compared.answer == 1 {
-        9
-    } else {
-        compared.answer
-    };
-    counted(answer, compared.kept, compared.examined, compared.length)
+    fn from(answer: Result<Inclusion, Refusal>) -> PbCompared {
+        match answer {
+            Ok(Inclusion::Within { kept, examined }) => counted(8, kept, examined, 0),
+            Ok(
+                Inclusion::NotWithin {
+                    kept,
+                    examined,
+                    length,
+                },
+            ) => counted(9, kept, examined, length),
+            Ok(Inclusion::Full { kept, examined }) => counted(2, kept, examined, 0),
+            Err(why) => counted(u8::from(why), 0, 0, 0),
+        }
+    }
 }
 
 // The answer to a check: PROVED or NOT-PROVED with its place, or a refusal and 0.
@@ -71,21 +74,20 @@ pub struct PbChecked {
     pub place: usize,
 }
 
-pub fn check_answer(answer: Checked) -> PbChecked
-    ensures { result ≡ check_answer answer }
-{
-    match answer {
-        Checked::Proved => PbChecked {
-            answer: 5,
-            place: 0,
-        },
-        Checked::NotProved(place) => PbChecked {
-            answer: 6,
-            place: place,
-        },
-        Checked::Refused(number) => PbChecked {
-            answer: number,
-            place: 0,
-        },
+impl From<Result<Checked, Refusal>> for PbChecked {
+    ghost from_gives = { λ answer r. r ≡ check_answer answer };
+
+    fn from(answer: Result<Checked, Refusal>) -> PbChecked {
+        match answer {
+            Ok(Checked::Proved) => PbChecked {
+                answer: 5,
+                place: 0,
+            },
+            Ok(Checked::NotProved(place)) => PbChecked { answer: 6, place },
+            Err(why) => PbChecked {
+                answer: u8::from(why),
+                place: 0,
+            },
+        }
     }
 }

@@ -1,14 +1,17 @@
 // The check of a list of records: its two sides gathered in tables of its own, small ones where they are enough, and checked.
 ghost use Rattle.std.specs.Prelude.{◌+◌, ◌≤◌, length};
 ghost use Rattle.sets.specs.Rooms.{max_room};
-ghost use Rattle.evidence.specs.Evidence.{offer_of};
-ghost use Rattle.records.specs.Answers.{CheckedOffer};
+ghost use Rattle.comparison.specs.Answers.{question_in};
+ghost use Rattle.evidence.specs.Evidence.{Checked};
+ghost use Rattle.records.specs.Offers.{offer_for};
 ghost use Rattle.records.specs.Records.{columns_in};
 ghost use Rattle.records.specs.Inner.{Shown, Gathers};
 
-use crate::answers::PbChecked;
 use crate::{PbRecord, SMALL_ROOM};
+use evidence::{Answer, Offer};
+use pattern::Question;
 use sets::States;
+use verdict::Refusal;
 
 // One more than a list may have: enough for the check to refuse it in its own order.
 const MOST_SHOWN: usize = States::MAX_ROOM + 1;
@@ -17,13 +20,10 @@ const MOST_SHOWN: usize = States::MAX_ROOM + 1;
 pub fn shown(listed: usize) -> usize
     ensures { Shown listed result }
 {
-    if listed > States::MAX_ROOM {
-        return MOST_SHOWN;
-    }
-    listed
+    listed.min(MOST_SHOWN)
 }
 
-// The sides of the first `n` records.
+// The sides of the first `n` records. By index: three lists side by side.
 pub fn gather(records: &[PbRecord], n: usize, lefts: &mut [u64], rights: &mut [u64])
     requires lefts_fit { n ≤ length lefts.old }
     requires rights_fit { n ≤ length rights.old }
@@ -39,51 +39,35 @@ pub fn gather(records: &[PbRecord], n: usize, lefts: &mut [u64], rights: &mut [u
 // Checks the first `n` records, of which so many are looked at, in sides of its own, of so many places.
 #[inline(never)]
 fn check_in<const PLACES: usize>(
-    states: usize,
-    letters: usize,
-    finals: u64,
-    rows: &[u64],
-    x: u64,
-    y: u64,
+    question: &Question,
     records: &[PbRecord],
     n: usize,
-) -> PbChecked
+) -> Result<Answer, Refusal>
     requires places_most { PLACES ≤ max_room + 1 }
     requires sides_fit { n ≤ PLACES }
     requires shown { Shown (length records.now) n }
-    ensures { CheckedOffer (offer_of states letters finals rows.now x y (columns_in records.now).lefts (columns_in records.now).rights) result }
+    ensures { Checked (offer_for (question_in question.now) (columns_in records.now)) result }
 {
     let mut lefts = [0u64; PLACES];
     let mut rights = [0u64; PLACES];
     gather(records, n, &mut lefts, &mut rights);
-    let answer = evidence::check(
-        states,
-        letters,
-        finals,
-        rows,
-        x,
-        y,
-        &lefts[..n],
-        &rights[..n],
-    );
-    crate::answers::check_answer(answer)
+    let offer = Offer {
+        pattern: question.pattern,
+        x: question.x,
+        y: question.y,
+        lefts: &lefts[..n],
+        rights: &rights[..n],
+    };
+    offer.check()
 }
 
 // Checks the pairs of a list of records as evidence that the sets `x` and `y` have one language.
-pub fn check(
-    states: usize,
-    letters: usize,
-    finals: u64,
-    rows: &[u64],
-    x: u64,
-    y: u64,
-    records: &[PbRecord],
-) -> PbChecked
-    ensures { CheckedOffer (offer_of states letters finals rows.now x y (columns_in records.now).lefts (columns_in records.now).rights) result }
+pub fn check(question: &Question, records: &[PbRecord]) -> Result<Answer, Refusal>
+    ensures { Checked (offer_for (question_in question.now) (columns_in records.now)) result }
 {
     let n = shown(records.len());
     if n <= SMALL_ROOM {
-        return check_in::<SMALL_ROOM>(states, letters, finals, rows, x, y, records, n);
+        return check_in::<SMALL_ROOM>(question, records, n);
     }
-    check_in::<MOST_SHOWN>(states, letters, finals, rows, x, y, records, n)
+    check_in::<MOST_SHOWN>(question, records, n)
 }

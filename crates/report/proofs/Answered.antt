@@ -1,53 +1,32 @@
--- The text of an answer, by its cases; and of the answer to a question that is not refused: the text of the walk's outcome. Assumes nothing.
+-- The text of an answer, in its parts; and of the answer to a question that is not refused: the text of the walk's outcome. Assumes nothing.
 use mathlib.Core.Path.{◌≡◌, refl, ap}
 use mathlib.Core.List.{List, [], ◌∷◌, ◌++◌, map}
-use Prim.Native.Nat.{ℕ, ◌≤◌}
-use native.Mathlib.Omega.{arith}
+use Prim.Native.Nat.{ℕ}
 use lib.ListN.{length, take, length-map}
 use Rattle.comparison.specs.declared.Answer.{Answer}
 use Rattle.walk.specs.Walk.{Record, lefts_of, rights_of, Outcome, kept_of, word_of}
 use Rattle.walk.specs.Walk.Outcome.{Same, Different, Full}
-use Rattle.comparison.specs.Answers.{Lent, answer_of, lay_out}
+use Rattle.comparison.specs.Answers.{Lent, outcome_answer, lay_out}
 use Rattle.lent.proofs.Laying.{take_lay}
-use Rattle.text.specs.Text.{word, decimal, line, refusal_text}
+use Rattle.lent.proofs.Filling.{Splits}
+use Rattle.text.specs.Text.{word, decimal, line}
 use Rattle.events.specs.Events.{event_name}
-use Rattle.report.specs.Report.{record_lines, text_of, longest}
-use Rattle.report.specs.Inner.{pair_lines, answer_text, Printable}
+use Rattle.report.specs.Report.{record_lines, text_of}
+use Rattle.report.specs.Inner.{pair_lines, answer_text}
 
--- ---- by the cases of the code
+-- ---- in the two parts that the code puts
 
 module _ {answer : Answer} (lefts rights sequence : List ℕ) where
   pub answer_same : {kept examined : ℕ} → answer ≡ Answer.Same kept examined
-      → line (word "SAME" ∷ decimal kept ∷ decimal examined ∷ []) ++ pair_lines (take kept lefts) (take kept rights) ≡ answer_text answer lefts rights sequence
+      → Splits (answer_text answer lefts rights sequence) (line (word "SAME" ∷ decimal kept ∷ decimal examined ∷ [])) (pair_lines (take kept lefts) (take kept rights))
   unfolding answer_text
-  answer_same q = rw q
+  answer_same q = record { parts = rw q }
 
   pub answer_different : {kept examined length : ℕ} → answer ≡ Answer.Different kept examined length
-      → line (word "DIFFERENT" ∷ decimal kept ∷ decimal examined ∷ decimal length ∷ []) ++ line (map event_name (take length sequence)) ≡ answer_text answer lefts rights sequence
+      → Splits (answer_text answer lefts rights sequence) (line (word "DIFFERENT" ∷ decimal kept ∷ decimal examined ∷ decimal length ∷ []))
+      (line (map event_name (take length sequence)))
   unfolding answer_text
-  answer_different q = rw q
-
-  pub answer_full : {kept examined : ℕ} → answer ≡ Answer.Full kept examined
-      → line (word "FULL" ∷ decimal kept ∷ decimal examined ∷ []) ≡ answer_text answer lefts rights sequence
-  unfolding answer_text
-  answer_full q = rw q
-
-  pub answer_refused : {number : ℕ} → answer ≡ Answer.Refused number → refusal_text number 0 ≡ answer_text answer lefts rights sequence
-  unfolding answer_text
-  answer_refused q = rw q
-
--- ---- what an answer that can be printed names
-
-module _ {answer : Answer} {lefts rights sequence out : List ℕ} (p : Printable answer lefts rights sequence out) where
-  pub printable_same : {kept examined : ℕ} → answer ≡ Answer.Same kept examined → (kept ≤ length lefts) × (kept ≤ length rights) × (longest kept ≤ length out)
-  printable_same q = ((rw q at p).lefts_there, (rw q at p).rights_there, (rw q at p).text_fits)
-
-  pub printable_different : {kept examined size : ℕ} → answer ≡ Answer.Different kept examined size → (size ≤ length sequence) × (longest size ≤ length out)
-  printable_different {kept} {size = size} q =
-      let there : size ≤ length sequence = (rw q at p).sequence_there in
-      let short : size ≤ kept = (rw q at p).short in
-      let fits : longest kept ≤ length out = (rw q at p).text_fits in
-      (there, omega arith)
+  answer_different q = record { parts = rw q }
 
 -- ---- what was laid is what was kept
 
@@ -56,7 +35,7 @@ unfolding pair_lines record_lines
 record_lines_lem [] = refl
 record_lines_lem (r ∷ kept) = ap (λ (l : List ℕ). line (decimal r.left ∷ decimal r.right ∷ []) ++ l) (record_lines_lem kept)
 
-pub answer_text_lem : (o : Outcome) (old : Lent) → let new = lay_out (kept_of o) (word_of o) old in answer_text (answer_of o) new.columns.lefts new.columns.rights new.sequence ≡ text_of o
+pub answer_text_lem : (o : Outcome) (old : Lent) → let new = lay_out (kept_of o) (word_of o) old in answer_text (outcome_answer o) new.columns.lefts new.columns.rights new.sequence ≡ text_of o
 unfolding answer_text text_of
 answer_text_lem (Same kept examined) old =
     rw (

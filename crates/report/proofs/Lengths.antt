@@ -3,26 +3,19 @@ use mathlib.Core.List.{List, [], ◌∷◌, map}
 use Prim.Native.Nat.{ℕ, zero, suc, ◌+◌, ◌*◌, ◌<◌, ◌≤◌}
 use native.Mathlib.Omega.{arith}
 use lib.ListN.{length, take, get_or, length-append}
-use Rattle.lent.specs.Lent.{Put}
-use Rattle.lent.proofs.Putting.{put_length}
-use Rattle.text.specs.Text.{decimal, spaced, joined, line, refusal_text}
+use Rattle.std.specs.Prelude.{Ok}
+use Rattle.lent.specs.declared.Page.{Page}
+use Rattle.lent.specs.Page.{HasRoomFor}
+use Rattle.comparison.specs.declared.Answer.{Answer}
+use Rattle.comparison.specs.Answers.{values_of}
+use Rattle.text.specs.Text.{word, decimal, spaced, joined, line}
 use Rattle.text.proofs.Decimal.{decimal_short}
-use Rattle.text.proofs.Lines.{spaced_length, line_length, whole_length, head_short, refusal_short}
+use Rattle.text.proofs.Lines.{spaced_length, line_length, whole_length, head_short}
 use Rattle.events.specs.Events.{event_name}
 use Rattle.events.proofs.Names.{name_short}
 use Rattle.report.specs.Report.{longest}
-use Rattle.report.specs.Inner.{pair_lines}
+use Rattle.report.specs.Inner.{pair_lines, answer_text, Printable}
 use Rattle.report.proofs.Lines.{pair_length}
-
--- a name and two numbers, or three, whatever they are
-pub two_fit : (name : List ℕ) (a b size : ℕ) → length name + 43 ≤ size → 0 + length (line (name ∷ decimal a ∷ decimal b ∷ [])) ≤ size
-two_fit name a b size h = omega (arith, head_short name (a ∷ b ∷ []))
-
-pub three_fit : (name : List ℕ) (a b c size : ℕ) → length name + 64 ≤ size → 0 + length (line (name ∷ decimal a ∷ decimal b ∷ decimal c ∷ [])) ≤ size
-three_fit name a b c size h = omega (arith, head_short name (a ∷ b ∷ c ∷ []))
-
-pub refusal_fits : (number place size : ℕ) → 50 ≤ size → 0 + length (refusal_text number place) ≤ size
-refusal_fits number place size h = omega (arith, refusal_short number place)
 
 -- the lines of n records
 pairs_short : (n : ℕ) (lefts rights : List ℕ) → length (pair_lines (take n lefts) (take n rights)) ≤ 42 * n
@@ -56,14 +49,27 @@ line_spaced (w ∷ ws) = omega (arith, whole_length w ws, spaced_length w ws)
 names_short : (n : ℕ) (s : List ℕ) → ((i : ℕ) → get_or s i 0 < 256) → length (line (map event_name (take n s))) ≤ 10 * n + 1
 names_short n s bytes = omega (arith, line_spaced (map event_name (take n s)), names_spaced n s bytes)
 
--- ---- what follows a first line fits, too
+-- the text of an answer
+text_short : (answer : Answer) (lefts rights sequence : List ℕ) → ((i : ℕ) → get_or sequence i 0 < 256) → (values_of (Ok answer)).length ≤ (values_of (Ok answer)).kept
+    → length (answer_text answer lefts rights sequence) ≤ longest (values_of (Ok answer)).kept
+unfolding answer_text
+text_short (Answer.Same kept examined) lefts rights sequence bytes h =
+    omega (
+      arith,
+      length-append (line (word "SAME" ∷ decimal kept ∷ decimal examined ∷ [])) (pair_lines (take kept lefts) (take kept rights)),
+      head_short (word "SAME") (kept ∷ examined ∷ []),
+      pairs_short kept lefts rights,
+    )
+text_short (Answer.Different kept examined size) lefts rights sequence bytes h =
+    omega (
+      arith,
+      length-append (line (word "DIFFERENT" ∷ decimal kept ∷ decimal examined ∷ decimal size ∷ [])) (line (map event_name (take size sequence))),
+      head_short (word "DIFFERENT") (kept ∷ examined ∷ size ∷ []),
+      names_short size sequence bytes,
+    )
+text_short (Answer.Full kept examined) lefts rights sequence bytes h = omega (arith, head_short (word "FULL") (kept ∷ examined ∷ []))
 
-pub records_fit : (name : List ℕ) (a b : ℕ) {old : List ℕ} {place : ℕ} {mid : List ℕ} → Put old 0 (line (name ∷ decimal a ∷ decimal b ∷ [])) place mid → length name ≤ 31
-    → (n : ℕ) (lefts rights : List ℕ) → longest n ≤ length old → place + length (pair_lines (take n lefts) (take n rights)) ≤ length mid
-records_fit name a b p h n lefts rights fits =
-    omega (arith, p.ends, put_length p, head_short name (a ∷ b ∷ []), pairs_short n lefts rights)
-
-pub names_fit : (name : List ℕ) (a b c : ℕ) {old : List ℕ} {place : ℕ} {mid : List ℕ} → Put old 0 (line (name ∷ decimal a ∷ decimal b ∷ decimal c ∷ [])) place mid → length name ≤ 9
-    → (n : ℕ) (s : List ℕ) → ((i : ℕ) → get_or s i 0 < 256) → longest n ≤ length old → place + length (line (map event_name (take n s))) ≤ length mid
-names_fit name a b c p h n s bytes fits =
-    omega (arith, p.ends, put_length p, head_short name (a ∷ b ∷ c ∷ []), names_short n s bytes)
+pub text_fits : {answer : Answer} {lefts rights sequence : List ℕ} {page : Page} → Printable answer lefts rights sequence page
+    → ((i : ℕ) → get_or sequence i 0 < 256) → HasRoomFor page (answer_text answer lefts rights sequence)
+text_fits {answer} {lefts} {rights} {sequence} p bytes =
+    record { fits = omega (arith, p.text_fits, text_short answer lefts rights sequence bytes p.short) }

@@ -9,11 +9,11 @@
 --                             the text stands at the start of the byte buffer, r bytes, and the rest is as it was (`reports_determined`)
 --   Leaves                    what all else that is lent holds then (`answers_determined`)
 use Rattle.std.specs.Prelude.{◌≡◌, List, [], ◌∷◌, ◌++◌, map, ℕ, ◌+◌, ◌*◌, ◌≤◌, length, take}
-use Rattle.lent.specs.Lent.{Slice, Put}
+use Rattle.lent.specs.Lent.{Put}
 use Rattle.walk.specs.Walk.{Question, Record, Outcome, Walk}
 use Rattle.walk.specs.Walk.Outcome.{Same, Different, Full}
-use Rattle.asking.specs.declared.Asked.{Asked}
-use Rattle.asking.specs.Asking.{Asks, Refuses, AnswersFile}
+use Rattle.comparison.specs.declared.Tables.{Tables}
+use Rattle.asking.specs.Asking.{Asked, Asks, Refuses, AnswersFile}
 use Rattle.text.specs.Text.{word, decimal, line, refusal_text}
 use Rattle.events.specs.Events.{event_name}
 
@@ -45,5 +45,5 @@ pub record Reported (room : ℕ) (input old : List ℕ) (r : ℕ) (new : List �
   pub counted : r ≡ length (take r new)
 
 -- the rows, the records and the sequence are those of what was answered
-abbrev pub Leaves : List ℕ → ℕ → Slice → Slice → Slice → Slice → Slice → Slice → Type 0
-Leaves bytes room rows lefts rights parents taken sequence = (asked : Asked) × AnswersFile bytes room rows lefts rights parents taken sequence asked
+abbrev pub Leaves : List ℕ → ℕ → List ℕ → Tables → List ℕ → Tables → Type 0
+Leaves bytes room rows old rows' new = (asked : Asked) × AnswersFile bytes room rows old asked rows' new

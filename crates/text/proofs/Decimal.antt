@@ -8,6 +8,9 @@ use native.Mathlib.Omega.{arith}
 use borrow.Author.Tests.{lt-ltb, le-ltb}
 use lib.ListN.{length, get_or, length-append, get_or-append}
 use lib.Seq.{get_or-append_seam}
+use Rattle.lent.specs.declared.Page.{Page}
+use Rattle.lent.specs.Page.{Puts}
+use Rattle.lent.proofs.Filling.{puts_as, puts_then}
 use Rattle.text.specs.Text.{word, digit, digits, decimal}
 
 -- ---- one digit, or those of a tenth and then the last
@@ -85,6 +88,21 @@ module _ (P : ℕ → List ℕ → Type 0) (one : (v : ℕ) → v < 10 → P v (
   pub decimal_ind : (v : ℕ) → v < 2 ^ 64 → P v (decimal v)
   unfolding decimal
   decimal_ind v h = digits_ind 19 v (omega arith)
+
+-- ---- the same, put on a page
+
+pub last_length : (v : ℕ) → v < 10 → length (decimal v) ≡ 1
+last_length v h = ap length (decimal_last v h)
+
+pub more_length : (v : ℕ) → v < 2 ^ 64 → 10 ≤ v → length (decimal v) ≡ length (decimal (v / 10)) + 1
+more_length v s h = ap length (decimal_more v s h) ∙ length-append (decimal (v / 10)) (digit (v % 10) ∷ [])
+
+pub last_puts : {old new : Page} {v d : ℕ} → v < 10 → d ≡ digit v → Puts old (d ∷ []) new → Puts old (decimal v) new
+last_puts {v = v} h e p = puts_as p (rw e (sym (decimal_last v h)))
+
+pub more_puts : {old mid new : Page} {v d : ℕ} → v < 2 ^ 64 → 10 ≤ v → d ≡ digit (v % 10)
+    → Puts old (decimal (v / 10)) mid → Puts mid (d ∷ []) new → Puts old (decimal v) new
+more_puts {v = v} s h e p q = puts_as (puts_then p q) (rw e (sym (decimal_more v s h)))
 
 -- ---- what decimals mean
 

@@ -6,9 +6,10 @@ use native.Mathlib.Numerals.{add-one}
 use native.Mathlib.Omega.{arith}
 use lib.ListN.{length, drop, get_or, length-append, drop_of_length-le}
 use lib.Seq.{drop-cons}
-use Rattle.lent.specs.Lent.{Put}
+use Rattle.lent.specs.declared.Page.{Page}
+use Rattle.lent.specs.Page.{Puts}
+use Rattle.lent.proofs.Filling.{puts_then, Splits}
 use Rattle.text.specs.Text.{word, digits, decimal, spaced, joined, line, refusal_text}
-use Rattle.lent.proofs.Putting.{put_as, put_then}
 use Rattle.text.proofs.Decimal.{decimal_short}
 
 -- ---- lengths
@@ -43,14 +44,29 @@ refusal_short number place = head_short (word "REFUSED") (number ∷ place ∷ [
 
 -- ---- words from a place on, each with a space in front
 
-pub spaced_none : (f : ℕ → List ℕ) (s : List ℕ) (i : ℕ) → length s ≤ i → spaced (map f (drop i s)) ≡ []
+pub spaced_none : {A : Type 0} (f : A → List ℕ) (s : List A) (i : ℕ) → length s ≤ i → spaced (map f (drop i s)) ≡ []
 unfolding spaced
 spaced_none f s i h = rw (drop_of_length-le s h)
 
-pub spaced_step : (f : ℕ → List ℕ) (s : List ℕ) (i : ℕ) → i < length s
-    → spaced (map f (drop i s)) ≡ (word " " ++ f (get_or s i 0)) ++ spaced (map f (drop (i + 1) s))
+pub spaced_step : {A : Type 0} (f : A → List ℕ) (s : List A) (i : ℕ) {x : A} → i < length s → x ≡ get_or s i x
+    → Splits (spaced (map f (drop i s))) (word " " ++ f x) (spaced (map f (drop (i + 1) s)))
 unfolding spaced
-spaced_step f s i h = rw (drop-cons s i 0 h, add-one)
+spaced_step f s i {x} h e = record { parts = rw (drop-cons s i x h, ← e, add-one) }
+
+-- ---- words with single spaces between them: the first, and the others
+
+pub joined_none : {A : Type 0} (f : A → List ℕ) (s : List A) → length s ≡ 0 → [] ≡ joined (map f s)
+unfolding joined
+joined_none f [] h = refl
+joined_none f (x ∷ s) h = absurd (omega arith)
+
+pub joined_some : {A : Type 0} (f : A → List ℕ) {s : List A} {x : A} {rest : List A} → s ≡ x ∷ rest → Splits (joined (map f s)) (f x) (spaced (map f rest))
+unfolding joined
+joined_some f e = record { parts = rw e }
+
+pub line_parts : (ws : List (List ℕ)) → Splits (line ws) (joined ws) (word "\n")
+unfolding line
+line_parts ws = record { parts = refl }
 
 -- ---- one word more
 
@@ -67,24 +83,12 @@ pub joined_more : (w : List ℕ) (ws : List (List ℕ)) (v : List ℕ) → joine
 unfolding joined
 joined_more w ws v = append_assoc w (spaced ws) (word " " ++ v) ∙ ap (λ (l : List ℕ). w ++ l) (spaced_more ws v)
 
--- ---- the same, put
+-- ---- the same, put on a page
 
-pub put_first : {old : List ℕ} {at : ℕ} {w : List ℕ} {next : ℕ} {new : List ℕ} → Put old at w next new → Put old at (joined (w ∷ [])) next new
-put_first {w = w} p = put_as p (joined_one w)
-
-pub put_more : {old : List ℕ} {at : ℕ} (w : List ℕ) (ws : List (List ℕ)) (v : List ℕ) {place : ℕ} {mid : List ℕ} {next : ℕ} {new : List ℕ}
-    → Put old at (joined (w ∷ ws)) place mid → Put mid place (word " " ++ v) next new → Put old at (joined (w ∷ (ws ++ (v ∷ [])))) next new
-put_more w ws v p q = put_as (put_then p q) (joined_more w ws v)
-
-pub put_newline : {old : List ℕ} {at : ℕ} (ws : List (List ℕ)) {place : ℕ} {mid : List ℕ} {next : ℕ} {new : List ℕ}
-    → Put old at (joined ws) place mid → Put mid place (word "\n") next new → Put old at (line ws) next new
-unfolding line
-put_newline ws p q = put_then p q
-
-pub put_whole : {old : List ℕ} {at : ℕ} {w : List ℕ} (ws : List (List ℕ)) {first : ℕ} {a : List ℕ} {last : ℕ} {b : List ℕ} {next : ℕ} {new : List ℕ}
-    → Put old at w first a → Put a first (spaced ws) last b → Put b last (word "\n") next new → Put old at (line (w ∷ ws)) next new
+pub puts_line : {old : Page} {w : List ℕ} (ws : List (List ℕ)) {first last new : Page}
+    → Puts old w first → Puts first (spaced ws) last → Puts last (word "\n") new → Puts old (line (w ∷ ws)) new
 unfolding line joined
-put_whole ws p q r = put_then (put_then p q) r
+puts_line ws p q r = puts_then (puts_then p q) r
 
 -- ---- as they look
 

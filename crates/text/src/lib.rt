@@ -1,31 +1,11 @@
-// Bytes, decimals and lines put into a lent buffer from a place on; each answer is the place after what was put.
+// Decimals and lines put on a page.
 #![tactic(auto)]
 
-ghost use Rattle.std.specs.Prelude.{◌∷◌, [], ◌++◌, map, ◌≡◌, ◌+◌, ◌≤◌, ◌<◌, length};
-ghost use Rattle.lent.specs.Lent.{Put};
-ghost use Rattle.text.specs.Text.{word, decimal, digit as Text·digit, spaced, line, refusal_text};
+ghost use Rattle.std.specs.Prelude.{List, ℕ, ◌∷◌, [], map, ◌≡◌, ◌<◌};
+ghost use Rattle.lent.specs.Page.{HasRoomFor, Puts};
+ghost use Rattle.text.specs.Text.{word, decimal, digit as Text·digit, spaced, joined, line, refusal_text};
 
-pub fn put_byte(out: &mut [u8], at: usize, byte: u8) -> usize
-    requires { at + 1 ≤ length out.old }
-    ensures { Put out.old at (byte ∷ []) result out.new }
-{
-    out[at] = byte;
-    at + 1
-}
-
-pub fn put_bytes(out: &mut [u8], at: usize, bytes: &[u8]) -> usize
-    requires { at + length bytes.now ≤ length out.old }
-    ensures { Put out.old at bytes.now result out.new }
-{
-    let mut place = at;
-    let mut i: usize = 0;
-    while i < bytes.len() {
-        out[place] = bytes[i];
-        place = place + 1;
-        i = i + 1;
-    }
-    place
-}
+use lent::Page;
 
 fn digit(d: u64) -> u8
     requires { d < 10 }
@@ -34,55 +14,98 @@ fn digit(d: u64) -> u8
     b'0' + d as u8
 }
 
-pub fn put_decimal(out: &mut [u8], at: usize, v: u64) -> usize
-    requires { at + length (decimal v) ≤ length out.old }
-    ensures { Put out.old at (decimal v) result out.new }
+// A number in decimal. By hand: the library's `itoa` would be one more crate to believe for these six lines.
+#[tactic(auto, using(crate::proofs::Decimal::last_length, crate::proofs::Decimal::more_length, lent::proofs::Filling::puts_length))]
+pub fn put_decimal(page: &mut Page, v: u64)
+    requires { HasRoomFor page.old (decimal v) }
+    ensures { Puts page.old (decimal v) page.new }
 {
     if v < 10 {
-        return put_byte(out, at, digit(v));
+        page.put_byte(digit(v));
+        return;
     }
-    let last = put_decimal(out, at, v / 10);
-    put_byte(out, last, digit(v % 10))
+    put_decimal(page, v / 10);
+    page.put_byte(digit(v % 10));
 }
 
-// A decimal with a space in front, as the later words of a line have it.
-pub fn put_number(out: &mut [u8], at: usize, v: u64) -> usize
-    requires { at + length (word " " ++ decimal v) ≤ length out.old }
-    ensures { Put out.old at (word " " ++ decimal v) result out.new }
-{
-    let place = put_byte(out, at, b' ');
-    put_decimal(out, place, v)
+// How values of a type are put, each as one word.
+pub trait Words {
+    type Value: Copy;
+
+    ghost word_of: { Self.Value → List ℕ };
+
+    fn put(page: &mut Page, value: Self::Value)
+        requires { HasRoomFor page.old (word_of value) }
+        ensures { Puts page.old (word_of value) page.new };
 }
 
-// Numbers, each with a space in front.
-pub fn put_numbers(out: &mut [u8], at: usize, numbers: &[u64]) -> usize
-    requires { at + length (spaced (map decimal numbers.now)) ≤ length out.old }
-    ensures { Put out.old at (spaced (map decimal numbers.now)) result out.new }
-{
-    let mut place = at;
-    let mut i: usize = 0;
-    while i < numbers.len() {
-        place = put_number(out, place, numbers[i]);
-        i = i + 1;
+// Numbers in decimal.
+pub struct Decimals;
+
+impl Words for Decimals {
+    type Value = u64;
+
+    ghost word_of = { decimal };
+
+    fn put(page: &mut Page, value: u64) {
+        put_decimal(page, value);
     }
-    place
+}
+
+// Words, each with a space in front.
+pub fn put_spaced<W: Words>(page: &mut Page, values: &[W::Value])
+    requires { HasRoomFor page.old (spaced (map W.word_of values.now)) }
+    ensures { Puts page.old (spaced (map W.word_of values.now)) page.new }
+{
+    for value in values {
+        page.put_byte(b' ');
+        W::put(page, *value);
+    }
+}
+
+// Words with single spaces between them.
+fn put_joined<W: Words>(page: &mut Page, values: &[W::Value])
+    requires { HasRoomFor page.old (joined (map W.word_of values.now)) }
+    ensures { Puts page.old (joined (map W.word_of values.now)) page.new }
+{
+    if let Some((first, rest)) = values.split_first() {
+        W::put(page, *first);
+        put_spaced::<W>(page, rest);
+    }
+}
+
+fn end_line(page: &mut Page)
+    requires { HasRoomFor page.old (word "\n") }
+    ensures { Puts page.old (word "\n") page.new }
+{
+    page.put_byte(b'\n');
+}
+
+// A line of words; an empty line where there are none.
+pub fn put_line<W: Words>(page: &mut Page, values: &[W::Value])
+    requires { HasRoomFor page.old (line (map W.word_of values.now)) }
+    ensures { Puts page.old (line (map W.word_of values.now)) page.new }
+{
+    put_joined::<W>(page, values);
+    end_line(page);
 }
 
 // A line of a name and its numbers.
-pub fn put_head(out: &mut [u8], at: usize, name: &[u8], numbers: &[u64]) -> usize
-    requires { at + length (line (name.now ∷ map decimal numbers.now)) ≤ length out.old }
-    ensures { Put out.old at (line (name.now ∷ map decimal numbers.now)) result out.new }
+#[tactic(auto, using(crate::proofs::Lines::whole_length, lent::proofs::Filling::puts_length))]
+pub fn put_head(page: &mut Page, name: &[u8], numbers: &[u64])
+    requires { HasRoomFor page.old (line (name.now ∷ map decimal numbers.now)) }
+    ensures { Puts page.old (line (name.now ∷ map decimal numbers.now)) page.new }
 {
-    let first = put_bytes(out, at, name);
-    let last = put_numbers(out, first, numbers);
-    put_byte(out, last, b'\n')
+    page.put_bytes(name);
+    put_spaced::<Decimals>(page, numbers);
+    end_line(page);
 }
 
 // The line of a refusal.
-pub fn put_refusal(out: &mut [u8], at: usize, number: u8, place: usize) -> usize
-    requires { at + length (refusal_text number place) ≤ length out.old }
-    ensures { Put out.old at (refusal_text number place) result out.new }
+#[tactic(auto, unfolding(crate::specs::Text::refusal_text))]
+pub fn put_refusal(page: &mut Page, number: u8, place: usize)
+    requires { HasRoomFor page.old (refusal_text number place) }
+    ensures { Puts page.old (refusal_text number place) page.new }
 {
-    let numbers = [number as u64, place as u64];
-    put_head(out, at, b"REFUSED", &numbers)
+    put_head(page, b"REFUSED", &[number as u64, place as u64]);
 }

@@ -5,8 +5,8 @@ use mathlib.Core.List.{List, [], ◌∷◌, map, Memᴰ}
 use Prim.Native.Nat.{ℕ, ◌≤◌}
 use lib.Dec.{leb}
 use borrow.Author.Tests.{leb-true}
-use Rattle.verdict.specs.declared.Verdict.{Verdict}
-use Rattle.verdict.specs.declared.Verdict.TheVariants.{Fine, Against}
+use Rattle.verdict.specs.Verdict.{Verdict}
+use Rattle.verdict.specs.Verdict.Verdict.{Fine, Against}
 use Rattle.verdict.specs.Tests.{need, in_order, each, Among}
 use Rattle.verdict.proofs.Ordered.{apart, one_number}
 

@@ -4,8 +4,8 @@
 --   Applies lines w     w is the number of the first line that applies (`one_applies`, `applies_exactly`)
 --   GoesBy lines v      the verdict refuses exactly where a line applies, and by the number of the first
 use Rattle.std.specs.Prelude.{◌≡◌, ◌↔◌, ◌⊎◌, ℕ}
-use Rattle.verdict.specs.declared.Verdict.{Verdict}
-use Rattle.verdict.specs.declared.Verdict.TheVariants.{Fine, Against}
+use Rattle.verdict.specs.Verdict.{Verdict}
+use Rattle.verdict.specs.Verdict.Verdict.{Fine, Against}
 
 pub data Lines : Type 1 where
   none : Lines

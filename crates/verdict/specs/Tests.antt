@@ -1,13 +1,18 @@
 -- What a test says, and tests made in order. Refusals are by the numbers of the scope (§7).
-use Rattle.std.specs.Prelude.{◌≡◌, Bool, true, false, ℕ}
+use Rattle.std.specs.Prelude.{◌≡◌, Bool, true, false, ℕ, Result, Ok, Err}
 use mathlib.Core.List.{List, [], ◌∷◌, map, Memᴰ}
-use Rattle.verdict.specs.declared.Verdict.{Verdict}
-use Rattle.verdict.specs.declared.Verdict.TheVariants.{Fine, Against}
+use Rattle.verdict.specs.Verdict.{Verdict}
+use Rattle.verdict.specs.Verdict.Verdict.{Fine, Against}
 
 -- a test that holds has nothing against it; one that fails is refused by its number
 unfoldable pub need : Bool → ℕ → Verdict
 need true w = Fine
 need false w = Against w
+
+-- the same, of a refusal by whatever names it
+unfoldable pub held : {E : Type 0} → Bool → E → Result (Unit {0}) E
+held true why = Ok tt
+held false why = Err why
 
 -- several tests in their order: the first that fails decides
 unfoldable pub in_order : List Verdict → Verdict

@@ -6,7 +6,9 @@ use mathlib.Core.Option.{Option}
 use mathlib.Core.Option.Option.{some}
 use Rattle.sets.specs.Sets.{meets}
 use Rattle.pattern.specs.Language.{union_below, next, reach, accepts}
-use Rattle.congruence.proofs.Computed.{added, passed, passes, joined, top, closing, closing_closes}
+use Rattle.congruence.specs.Closing.{added}
+use Rattle.congruence.proofs.Passes.{passed}
+use Rattle.congruence.proofs.Computed.{passes, joined, top, closing, closing_closes}
 use Rattle.walk.specs.Walk.{Record, lefts_of, rights_of, candidate, Outcome}
 use Rattle.walk.specs.Known.{Row, table, Holds, Known}
 use Rattle.walk.specs.Known.Row.{asks, closes}

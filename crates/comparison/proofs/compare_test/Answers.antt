@@ -1,35 +1,28 @@
 -- `comparison::compare_test` makes its five tests in order.
-use mathlib.Core.Path.{sym, ◌∙◌}
-use Rattle.comparison.specs.Answers.{room_test}
-use Rattle.comparison.proofs.Asking.{shape_decides, room_decides, masks_decide, left_decides, right_decides}
+use Rattle.std.proofs.Common.{rules}
+use Rattle.verdict.proofs.Refusals.{stops, goes_on, ends}
+use Rattle.comparison.specs.Answers.{room_test, compare_test}
 use Rattle.comparison.proofs.compare_test.Goals as goal
 
-pub returns-in_default : goal.returns-in_default
-returns-in_default c =
-    let is = c.shape_test-shape.ensures c.args.finals in
-    is ∙ sym (shape_decides _ (sym is ∙ c.in_default.is))
+pub returns-in_err-shape_test : goal.returns-in_err-shape_test
+unfolding compare_test
+returns-in_err-shape_test c = stops _ (search rules) c.in_err-shape_test.ensures
 
-pub returns-in_default-fits : goal.returns-in_default-fits
-unfolding room_test
-returns-in_default-fits c =
-    let is = c.room_test-fits.ensures in
-    is ∙ sym (room_decides _ (sym (c.shape_test-shape.ensures c.args.finals) ∙ c.in-Fine.is) (sym is ∙ c.in_default-fits.is))
+pub returns-in_err-room_test : goal.returns-in_err-room_test
+unfolding compare_test room_test
+returns-in_err-room_test c = goes_on _ c.in_ok-shape_test.ensures (stops _ (search rules) c.in_err-room_test.ensures)
 
-pub returns-in_default-masks : goal.returns-in_default-masks
-unfolding room_test
-returns-in_default-masks c =
-    let is = c.masks_test-masks.ensures c.args.letters in
-    is ∙ sym (masks_decide _ (sym (c.shape_test-shape.ensures c.args.finals) ∙ c.in-Fine.is) (sym c.room_test-fits.ensures ∙ c.in-Fine-fits.is) (sym is ∙ c.in_default-masks.is))
+pub returns-in_err-masks_test : goal.returns-in_err-masks_test
+unfolding compare_test room_test
+returns-in_err-masks_test c = goes_on _ c.in_ok-shape_test.ensures (goes_on _ c.in_ok-room_test.ensures (stops _ (search rules) c.in_err-masks_test.ensures))
 
-pub returns-in_default-left : goal.returns-in_default-left
-unfolding room_test
-returns-in_default-left c =
-    let is = c.set_test-left.ensures in
-    is ∙ sym (left_decides _ (sym (c.shape_test-shape.ensures c.args.finals) ∙ c.in-Fine.is) (sym c.room_test-fits.ensures ∙ c.in-Fine-fits.is)
-    (sym (c.masks_test-masks.ensures c.args.letters) ∙ c.in-Fine-masks.is) (sym is ∙ c.in_default-left.is))
+pub returns-in_err-set_test : goal.returns-in_err-set_test
+unfolding compare_test room_test
+returns-in_err-set_test c =
+    goes_on _ c.in_ok-shape_test.ensures (goes_on _ c.in_ok-room_test.ensures (goes_on _ c.in_ok-masks_test.ensures (stops _ (search rules) c.in_err-set_test.ensures)))
 
 pub returns : goal.returns
-unfolding room_test
+unfolding compare_test room_test
 returns c =
-    c.set_test.ensures ∙ sym (right_decides _ (sym (c.shape_test-shape.ensures c.args.finals) ∙ c.in-Fine.is) (sym c.room_test-fits.ensures ∙ c.in-Fine-fits.is)
-    (sym (c.masks_test-masks.ensures c.args.letters) ∙ c.in-Fine-masks.is) (sym c.set_test-left.ensures ∙ c.in-Fine-left.is))
+    goes_on _ c.in_ok-shape_test.ensures
+    (goes_on _ c.in_ok-room_test.ensures (goes_on _ c.in_ok-masks_test.ensures (goes_on _ c.in_ok-set_test.ensures (ends c.set_test-2.ensures))))

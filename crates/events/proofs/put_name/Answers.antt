@@ -1,27 +1,27 @@
--- `events::put_name` puts the row of the table as far as it is the name, or E and then the letter's decimal.
-use Rattle.std.proofs.Common.{◌≡◌, ℕ, ◌+◌, ◌≤◌, ◌∙◌, sym, ap, length, arith}
-use Rattle.text.specs.Text.{decimal}
-use Rattle.lent.proofs.Putting.{put_as, put_then}
-use Rattle.events.specs.Events.{event_name}
-use Rattle.events.proofs.Table.{row_is}
-use Rattle.events.proofs.Names.{name_high, name_short}
+-- `events::put_name` puts the letter's name of the table, or E and then the letter's decimal.
+use Rattle.std.proofs.Common.{ℕ, List, ap, ◌∙◌, Bor}
+use Rattle.lent.proofs.Filling.{puts_as, first_fits, second_fits, both_put}
+use Rattle.events.specs.Events.{names}
+use Rattle.events.proofs.Names.{name_numbered, bytes_at, row_is}
 use Rattle.events.proofs.put_name.Goals as goal
 
-high_length : (a : ℕ) → 12 ≤ a → length (event_name a) ≡ 1 + length (decimal a)
-high_length a h = ap length (name_high a h) ∙ omega arith
+pub put_bytes-requires : goal.put_bytes-requires
+unfolding names
+put_bytes-requires c =
+    let found = rw bytes_at at (ap (λ (x : Bor (List ℕ)). x.now) c.in-Some.ensures.lookup.1) in
+    rw (found ∙ row_is c.args.letter _ c.in-Some.ensures.lookup.3.0) c.requires
 
-pub slice_bounds-put_bytes-end : goal.slice_bounds-put_bytes-end
-slice_bounds-put_bytes-end c = omega (arith, name_short c.args.letter (omega arith))
+pub returns-in-Some : goal.returns-in-Some
+unfolding names
+returns-in-Some c =
+    let found = rw bytes_at at (ap (λ (x : Bor (List ℕ)). x.now) c.in-Some.ensures.lookup.1) in
+    puts_as c.put_bytes.ensures (found ∙ row_is c.args.letter _ c.in-Some.ensures.lookup.3.0)
 
-pub returns-then-letter-lt-NAMED : goal.returns-then-letter-lt-NAMED
-returns-then-letter-lt-NAMED c =
-    put_as c.put_bytes.ensures (row_is c.args.letter c.length_of.result c.if-letter-lt-NAMED.true c.length_of.ensures)
-
-pub put_byte-place-requires : goal.put_byte-place-requires
-put_byte-place-requires c = omega (arith, high_length c.args.letter c.if-letter-lt-NAMED.false)
+pub put_byte-requires : goal.put_byte-requires
+put_byte-requires c = first_fits c.requires (name_numbered c.args.letter c.in-None.ensures.lookup.3)
 
 pub put_decimal-requires : goal.put_decimal-requires
-put_decimal-requires c = omega (arith, high_length c.args.letter c.if-letter-lt-NAMED.false)
+put_decimal-requires c = second_fits c.requires (name_numbered c.args.letter c.in-None.ensures.lookup.3) c.put_byte.ensures
 
-pub returns : goal.returns
-returns c = put_as (put_then c.put_byte-place.ensures c.put_decimal.ensures) (sym (name_high c.args.letter c.if-letter-lt-NAMED.false))
+pub returns-in-None : goal.returns-in-None
+returns-in-None c = both_put (name_numbered c.args.letter c.in-None.ensures.lookup.3) c.put_byte.ensures c.put_decimal.ensures

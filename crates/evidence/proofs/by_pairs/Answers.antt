@@ -1,10 +1,10 @@
--- `evidence::by_pairs` tries the listed pairs in turn.
-use Rattle.evidence.specs.Evidence.ByPairs.{fails}
-use Rattle.evidence.proofs.Searching.{held_all}
+-- `evidence::by_pairs` looks for the first pair that does not hold.
+use Rattle.std.proofs.Common.{rules}
+use Rattle.evidence.specs.Evidence.ByPairs.{all_hold, fails}
 use Rattle.evidence.proofs.by_pairs.Goals as goal
 
-pub returns-then-not-holds : goal.returns-then-not-holds
-returns-then-not-holds c = fails c.loop-place-test.true c.loop-place.invariant.lower (c.holds.ensures.complete c.if-not-holds.true)
+pub returns-in-Some : goal.returns-in-Some
+returns-in-Some c = fails (search rules) (λ j l. search rules) (λ h. search rules)
 
-pub returns : goal.returns
-returns c = held_all c.loop-place-test.false c.loop-place.invariant
+pub returns-in-None : goal.returns-in-None
+returns-in-None c = all_hold (λ j l. search rules)

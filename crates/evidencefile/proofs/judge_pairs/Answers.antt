@@ -1,46 +1,38 @@
 -- `evidencefile::judge_pairs` goes through the format behind the pattern's numbers.
-use Prim.Native.Nat.{ℕ, ◌*◌}
-use mathlib.Core.Path.{◌≡◌, ap, ◌∙◌}
-use native.Mathlib.Omega.{arith}
-use Rattle.pattern.specs.Tests.{set_test}
-use Rattle.numbers.specs.declared.Number.{Number}
-use Rattle.numbers.specs.Format.{ended, many, reading}
-use Rattle.patternfile.specs.Parts.{passed}
+use Rattle.std.proofs.Common.{rules, ◌≡◌, Err, sym, ◌∙◌, arith}
+use Rattle.verdict.specs.Verdict.Verdict.{Fine}
+use Rattle.numbers.proofs.Faulted.{faulted}
 use Rattle.evidencefile.specs.EvidenceFile.{pair_room_test}
 use Rattle.evidencefile.proofs.Judging.{no_count, few_pairs, no_room, bad_pair, all_pairs}
 use Rattle.evidencefile.proofs.judge_pairs.Goals as goal
-use Rattle.evidencefile.proofs.judge_pairs.Goals.{In_default-room}
+use Rattle.evidencefile.proofs.judge_pairs.Goals.{In_ok-map_err}
 
-pub returns-in_default : goal.returns-in_default
-returns-in_default c = no_count c.args.states c.args.lefts c.args.rights c.args.bytes.now c.args.at c.read_count-count_read.ensures c.in_default.is
+pub returns-in_err-count : goal.returns-in_err-count
+returns-in_err-count c =
+    let e : c.from_residual.result ≡ Err c.in_err-count.field-0.0 = search rules in
+    rw e (no_count c.args.states c.args.lefts c.args.rights c.args.bytes.now c.args.at c.in_err-count.ensures)
 
-pub returns-in-Against : goal.returns-in-Against
-returns-in-Against c =
-    no_room c.args.states c.args.lefts c.args.rights c.args.bytes.now c.args.at c.read_count-count_read.ensures c.in-Value.is
-    (c.pair_room_test-room.ensures ∙ ap (pair_room_test c.args.lefts c.args.rights) c.index-pairs.ensures) c.in-Against.is
+-- NO-ROOM
+pub returns-in_err-map_err : goal.returns-in_err-map_err
+returns-in_err-map_err c =
+    let e : c.from_residual-in_err-map_err.result ≡ Err c.in_err-map_err.field-0.0 = search rules in
+    let bad = (faulted c.in_ok-count.count.next c.pair_room_test.result c.map_err.ensures.cases (λ why f h. search rules)).err c.in_err-map_err.field-0.0 c.in_err-map_err.was in
+    rw (e, bad.1) (no_room c.args.states c.args.lefts c.args.rights c.args.bytes.now c.args.at c.in_ok-count.ensures (sym c.pair_room_test.ensures ∙ bad.0))
 
 pub overflow_mul-pairs : goal.overflow_mul-pairs
-overflow_mul-pairs c =
-    let few = few_pairs c.args.states c.args.lefts c.args.rights c.args.bytes.now c.args.at c.read_count-count_read.ensures c.in-Value.is in
-    omega (arith, few, c.index-pairs.ensures)
+overflow_mul-pairs c = omega (arith, few_pairs c.args.states c.args.lefts c.args.rights c.args.bytes.now c.args.at c.in_ok-count.ensures)
 
--- the count as the code has it
-roomy : (c : In_default-room) → c.pair_room_test-room.result ≡ pair_room_test c.args.lefts c.args.rights c.in-Value.count
-roomy c = c.pair_room_test-room.ensures ∙ ap (pair_room_test c.args.lefts c.args.rights) c.index-pairs.ensures
+roomy : (c : In_ok-map_err) → pair_room_test c.args.lefts c.args.rights c.in_ok-count.count.value ≡ Fine
+roomy c = sym c.pair_room_test.ensures ∙ (faulted c.in_ok-count.count.next c.pair_room_test.result c.map_err.ensures.cases (λ why f h. search rules)).ok c.in_ok-map_err.was
 
-passing : (c : In_default-room) → ℕ → Number
-passing c i = passed (2 * i) (reading (many (2 * i) (set_test c.args.states) ended) c.args.bytes.now c.in-Value.at_pairs)
-
-pub returns-in_default-sides_passed : goal.returns-in_default-sides_passed
-unfolding passing
-returns-in_default-sides_passed c =
-    let d = (goal.at.returns-in_default-sides_passed c).In_default-room in
-    bad_pair c.args.states c.args.lefts c.args.rights c.args.bytes.now c.args.at c.read_count-count_read.ensures c.in-Value.is (roomy d) c.in_default-room.is
-    (c.pass_sets-sides_passed.ensures ∙ ap (passing d) c.index-pairs.ensures) c.in_default-sides_passed.is
+pub returns-in_err-end : goal.returns-in_err-end
+returns-in_err-end c =
+    let e : c.from_residual-in_err-end.result ≡ Err c.in_err-end.field-0.0 = search rules in
+    rw e
+    (bad_pair c.args.states c.args.lefts c.args.rights c.args.bytes.now c.args.at c.in_ok-count.ensures (roomy (goal.at.returns-in_err-end c).In_ok-map_err) c.in_err-end.ensures)
 
 pub returns : goal.returns
-unfolding passing
-returns c =
-    let d = (goal.at.returns c).In_default-room in
-    all_pairs c.args.states c.args.lefts c.args.rights c.args.bytes.now c.args.at c.read_count-count_read.ensures c.in-Value.is (roomy d) c.in_default-room.is
-    (c.pass_sets-sides_passed.ensures ∙ ap (passing d) c.index-pairs.ensures) c.in-Value-sides_passed.is
+returns c = (
+  c.in_ok-end.ensures.0,
+  all_pairs c.args.states c.args.lefts c.args.rights c.args.bytes.now c.args.at c.in_ok-count.ensures (roomy (goal.at.returns c).In_ok-map_err) c.in_ok-end.ensures.1,
+)

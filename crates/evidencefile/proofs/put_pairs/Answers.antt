@@ -1,55 +1,40 @@
--- `evidencefile::put_pairs` puts the bytes of the pairs: in each turn those of the pairs from i on are left, to be put from the place on.
-use Prim.Native.Nat.{ℕ, ◌+◌}
-use mathlib.Core.List.{List, ◌++◌}
-use mathlib.Core.Path.{refl}
-use native.Mathlib.Omega.{arith}
-use lib.ListN.{drop, get_or}
-use Rattle.lent.proofs.Putting.{left_first, left_room, left_step, left_done}
-use Rattle.numbers.specs.Numbers.{encode}
-use Rattle.numbers.specs.Format.{encode_all}
-use Rattle.evidencefile.specs.EvidenceFile.{alternating}
-use Rattle.evidencefile.proofs.Sides.{pairs_step, pairs_none}
+-- `evidencefile::put_pairs` puts the bytes of the pairs: in each turn those of the pairs that are still to come are left.
+use Rattle.std.proofs.Common.{◌≡◌, arith, ap, sym, ◌∙◌}
+use Rattle.std.specs.Iterator.Adapters.{zip_first, zip_second}
+use Rattle.std.specs.Slice.Iter.{iter_rest}
+use Rattle.std.proofs.lemmas.Slice.Zip.{Zip-more}
+use Rattle.std.proofs.lemmas.Iterator.{empty_from_Zip}
+use lib.ListN.{length}
+use Rattle.lent.proofs.Filling.{to_put_first, to_put_fits, to_put_step, to_put_done}
+use Rattle.evidencefile.proofs.Sides.{pair_first, right_then, pairs_none}
 use Rattle.evidencefile.proofs.put_pairs.Goals as goal
+use Rattle.evidencefile.proofs.put_pairs.Goals.{In-Some}
 
-pub loop-i-init : goal.loop-i-init
-loop-i-init c = record { within = omega arith; left = left_first c.args.out.now c.args.at (encode_all (alternating c.args.lefts.now c.args.rights.now)) c.requires.enough }
+pub loop-left-init : goal.loop-left-init
+loop-left-init c =
+    let first : iter_rest (zip_first c.into_iter-left-iterator.result) ≡ c.args.pairs.now.lefts.now = cc in
+    let second : iter_rest (zip_second c.into_iter-left-iterator.result) ≡ c.args.pairs.now.rights.now = cc in
+    record { paired = ap length first ∙ c.args.pairs.now.paired ∙ ap length (sym second); left = rw (first, second) (to_put_first _ _ c.requires) }
 
--- left and right of the next pair, and what stands behind it
-beyond : List ℕ → List ℕ → ℕ → List ℕ
-beyond lefts rights i = encode_all (alternating (drop (i + 1) lefts) (drop (i + 1) rights))
+pub write-requires : goal.write-requires
+write-requires c =
+    let more = Zip-more c.loop-left.left-iterator c.next.new.self c.next.result (c.in-Some.left, c.in-Some.right) c.in-Some.is c.next.ensures.steps in
+    to_put_fits c.loop-left.invariant.left (pair_first _ _ more.0 more.1)
 
-pub write-at_right-requires : goal.write-at_right-requires
-unfolding beyond
-write-at_right-requires c =
-    let lefts = c.args.lefts.now in
-    let rights = c.args.rights.now in
-    let i = c.loop-i.i in
-    left_room (encode (get_or lefts i 0)) (encode (get_or rights i 0) ++ beyond lefts rights i) c.loop-i.invariant.left
-    (pairs_step lefts rights i c.loop-i-test.true c.requires.sides_match)
+pub write-requires-in-loop-left : goal.write-requires-in-loop-left
+write-requires-in-loop-left c =
+    let more = Zip-more c.loop-left.left-iterator c.next.new.self c.next.result (c.in-Some.left, c.in-Some.right) c.in-Some.is c.next.ensures.steps in
+    to_put_fits (to_put_step c.loop-left.invariant.left (pair_first _ _ more.0 more.1) c.write.ensures) (right_then _ _)
 
-pub write-place-requires : goal.write-place-requires
-unfolding beyond
-write-place-requires c =
-    let lefts = c.args.lefts.now in
-    let rights = c.args.rights.now in
-    let i = c.loop-i.i in
-    left_room (encode (get_or rights i 0)) (beyond lefts rights i)
-    (left_step (encode (get_or rights i 0) ++ beyond lefts rights i) c.loop-i.invariant.left (pairs_step lefts rights i c.loop-i-test.true c.requires.sides_match) c.write-at_right.ensures)
-    refl
-
-pub loop-i-preserved : goal.loop-i-preserved
-unfolding beyond
-loop-i-preserved c =
-    let lefts = c.args.lefts.now in
-    let rights = c.args.rights.now in
-    let i = c.loop-i.i in
+pub loop-left-preserved : goal.loop-left-preserved
+loop-left-preserved c =
+    let more = Zip-more c.loop-left.left-iterator c.next.new.self c.next.result (c.in-Some.left, c.in-Some.right) c.in-Some.is c.next.ensures.steps in
     record {
-      within = omega arith;
-      left =
-          left_step (beyond lefts rights i)
-          (left_step (encode (get_or rights i 0) ++ beyond lefts rights i) c.loop-i.invariant.left (pairs_step lefts rights i c.loop-i-test.true c.requires.sides_match) c.write-at_right.ensures)
-          refl c.write-place.ensures;
+      paired = omega (arith, ap length more.0, ap length more.1, c.loop-left.invariant.paired);
+      left = to_put_step (to_put_step c.loop-left.invariant.left (pair_first _ _ more.0 more.1) c.write.ensures) (right_then _ _) c.write-in-loop-left.ensures;
     }
 
 pub returns : goal.returns
-returns c = left_done c.loop-i.invariant.left (pairs_none c.args.lefts.now c.args.rights.now c.loop-i.i c.loop-i-test.false)
+returns c =
+    let none = empty_from_Zip c.loop-left.left-iterator c.next.new.self c.next.result c.in-None.is c.next.ensures.steps c.loop-left.invariant.paired in
+    to_put_done c.loop-left.invariant.left (pairs_none _ none.0)

@@ -1,16 +1,14 @@
--- `evidencefile::put_pairs` puts the bytes of the pairs: in each turn those of the pairs from i on are left, to be put from the place on.
-use Prim.Native.Nat.{◌-◌, ◌≤◌}
-use lib.ListN.{length, drop}
-use Rattle.lent.proofs.Putting.{Left}
+-- `evidencefile::put_pairs` puts the bytes of the pairs: in each turn those of the pairs that are still to come are left.
+use Rattle.std.proofs.Common.{◌≡◌, length}
+use Rattle.std.specs.Iterator.Adapters.{zip_first, zip_second}
+use Rattle.std.specs.Slice.Iter.{iter_rest}
+use Rattle.lent.proofs.Filling.{ToPut}
 use Rattle.numbers.specs.Format.{encode_all}
 use Rattle.evidencefile.specs.EvidenceFile.{alternating}
 use Rattle.evidencefile.proofs.put_pairs.Given as goal
 
-abbrev pub invariant-loop-i : goal.invariant-loop-i
-invariant-loop-i l = record {
-  within : l.i ≤ length l.lefts;
-  left : Left l.fn.out l.at (encode_all (alternating l.lefts l.rights)) l.out l.place (encode_all (alternating (drop l.i l.lefts) (drop l.i l.rights)));
+abbrev pub invariant-loop-left : goal.invariant-loop-left
+invariant-loop-left l = record {
+  paired : length (iter_rest (zip_first l.left-iterator)) ≡ length (iter_rest (zip_second l.left-iterator));
+  left : ToPut l.fn.page (encode_all (alternating l.fn.pairs.lefts.now l.fn.pairs.rights.now)) l.page (encode_all (alternating (iter_rest (zip_first l.left-iterator)) (iter_rest (zip_second l.left-iterator))));
 }
-
-abbrev pub decreases-loop-i : goal.decreases-loop-i
-decreases-loop-i l = length l.lefts - l.i

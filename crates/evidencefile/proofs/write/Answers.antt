@@ -1,45 +1,38 @@
 -- `evidencefile::write`: once the tests are passed, there is room for the file's parts, one after the other.
-use mathlib.Core.Path.{refl, sym, ◌∙◌}
+use Rattle.std.proofs.Common.{rules}
+use mathlib.Core.Path.{sym}
+use native.Mathlib.Omega.{arith}
 use lib.ListN.{length}
-use Rattle.evidence.specs.Evidence.{Offer, offer_of}
+use Rattle.lent.proofs.Filling.{first_fits, second_fits, both_put}
+use Rattle.evidence.specs.Lent.{offer_in}
 use Rattle.evidencefile.specs.Writer.{Allowed}
 use Rattle.evidencefile.proofs.Refusals.{write_fine}
-use Rattle.evidencefile.proofs.Storing.{room_part, room_count, room_pairs, all_put}
+use Rattle.evidencefile.proofs.Storing.{part_first, count_then}
 use Rattle.evidencefile.proofs.write.Goals as goal
-use Rattle.evidencefile.proofs.write.Goals.{In_default}
+use Rattle.evidencefile.proofs.write.Goals.{In_ok-write_test}
 
-offer : (c : In_default) → Offer
-offer c = offer_of c.args.states c.args.letters c.args.finals c.args.rows.now c.args.x c.args.y c.args.lefts.now c.args.rights.now
+allowed : (c : In_ok-write_test) → Allowed (offer_in c.args.offer.now) (length c.args.out.now)
+allowed c = (write_fine _ (length c.args.out.now)).0 (sym c.in_ok-write_test.ensures)
 
-allowed : (c : In_default) → Allowed (offer c) (length c.args.out.now)
-unfolding offer
-allowed c = (write_fine _ (length c.args.out.now)).0 (sym c.write_test-test.ensures ∙ c.in_default.is)
+pub put_pattern-requires : goal.put_pattern-requires
+put_pattern-requires c =
+    first_fits (record { fits = omega (arith, (allowed (goal.at.put_pattern-requires c).In_ok-write_test).enough) }) (part_first (offer_in c.args.offer.now))
 
-pub put_pattern-at_count-requires : goal.put_pattern-at_count-requires
-unfolding offer
-put_pattern-at_count-requires c = let d = (goal.at.put_pattern-at_count-requires c).In_default in room_part (offer d) refl c.args.out.now (allowed d).enough
+pub write-requires : goal.write-requires
+write-requires c =
+    let o = offer_in c.args.offer.now in
+    first_fits (second_fits (record { fits = omega (arith, (allowed (goal.at.write-requires c).In_ok-write_test).enough) }) (part_first o) c.put_pattern.ensures) (count_then o)
 
-pub write-at_pairs-requires : goal.write-at_pairs-requires
-unfolding offer
-write-at_pairs-requires c =
-    let d = (goal.at.write-at_pairs-requires c).In_default in
-    room_count (offer d) c.wide.ensures c.args.out.now (allowed d).enough c.put_pattern-at_count.ensures
+pub invariant_of-pairs : goal.invariant_of-pairs
+invariant_of-pairs c = record { paired = (allowed (goal.at.invariant_of-pairs c).In_ok-write_test).valid.sides_match }
 
-pub put_pairs-requires-clause-sides_match : goal.put_pairs-requires-clause-sides_match
-unfolding offer
-put_pairs-requires-clause-sides_match c = (allowed (goal.at.put_pairs-requires-clause-sides_match c).In_default).valid.sides_match
-
-pub put_pairs-requires-clause-enough : goal.put_pairs-requires-clause-enough
-unfolding offer
-put_pairs-requires-clause-enough c =
-    let d = (goal.at.put_pairs-requires-clause-enough c).In_default in
-    room_pairs (offer d) c.wide.ensures c.args.out.now (allowed d).enough c.put_pattern-at_count.ensures c.write-at_pairs.ensures
+pub put_pairs-requires : goal.put_pairs-requires
+put_pairs-requires c =
+    let o = offer_in c.args.offer.now in
+    second_fits (second_fits (record { fits = omega (arith, (allowed (goal.at.put_pairs-requires c).In_ok-write_test).enough) }) (part_first o) c.put_pattern.ensures) (count_then o) c.write.ensures
 
 pub returns : goal.returns
-unfolding offer
 returns c =
-    let d = (goal.at.returns c).In_default in
-    record {
-      allowed = sym c.write_test-test.ensures ∙ c.in_default.is;
-      written = all_put (offer d) c.wide.ensures c.args.out.now (allowed d).enough c.put_pattern-at_count.ensures c.write-at_pairs.ensures c.put_pairs.ensures;
-    }
+    let o = offer_in c.args.offer.now in
+    let all = both_put (part_first o) c.put_pattern.ensures (both_put (count_then o) c.write.ensures c.put_pairs.ensures) in
+    record { allowed = sym c.in_ok-write_test.ensures; written = search (rules, all) }

@@ -1,149 +1,160 @@
 -- Each reader tells what it read, or the first fault.
-use mathlib.Core.Path.{refl, sym}
+use mathlib.Core.Path.{◌≡◌, refl, sym, ap}
+use mathlib.Core.Logic.{inl, inr}
+use mathlib.Core.Bool.{true, false}
 use native.Mathlib.Omega.{arith}
-use lib.ListN.{length-set}
+use lib.ListN.{length}
+use Rattle.std.proofs.Common.{rules}
 use Rattle.std.proofs.lemmas.Nat.{one_shl}
-use Rattle.expressions.proofs.Parts.{core_letter, core_unit, core_void, core_group}
+use Rattle.std.proofs.lemmas.Result.{err_from_is_err_and}
+use Rattle.expressions.specs.declared.Look.{Look}
+use Rattle.expressions.specs.declared.Token.TheVariants.{Bar, Close}
+use Rattle.expressions.proofs.Looking.{letter_below}
+use Rattle.expressions.proofs.Parts.{token_ahead, event_at, one_at, zero_at, open_at, close_at, core_gap, core_letter, core_unit, core_void, core_group}
 use Rattle.expressions.proofs.Marking.{peek_le}
-use Rattle.expressions.proofs.Readers.{made_later, made_more, begun_later, alt_first, alt_done, alt_ahead, alt_asks, alt_step, alt_fault, seq_first, seq_done, seq_step, seq_fault, none_fault, head_fault, letter_at, unit_at, void_at, open_at, begin_ahead, factor_asks, many_fault, deep_fault, inner_fault, close_fault, close_within}
+use Rattle.expressions.proofs.Readers.{made_later, made_more, begun_later, alt_first, alt_ahead, alt_asks, alt_step, alt_fault, seq_first, seq_step, seq_fault, head_fault, not_begins, none_fault, many_fault, deep_fault, inner_fault, close_fault}
 use Rattle.expressions.proofs.+readers.Goals as goal
+use Rattle.expressions.proofs.+readers.Goals.{factor-in-Event+else-used-ge-MOST_STATES, factor-in-One, factor-in-Zero, factor-in-Open+else-depth-ge-MOST_OPEN+in_ok-inner-in-Open+else-ne}
 
 -- ---- sequences with bars between them
 
-pub alternation-loop-x-init : goal.alternation-loop-x-init
-alternation-loop-x-init t c = alt_first c.in-Read.ensures.0
+pub alternation-loop-tables-init : goal.alternation-loop-tables-init
+alternation-loop-tables-init t c = alt_first c.in_ok-x.ensures
 
-pub alternation-sequence-further-requires : goal.alternation-sequence-further-requires
-alternation-sequence-further-requires t c =
-    let b = c.loop-x.invariant in
-    let ahead = alt_ahead b c.loop-x-test.true in
-    (omega (arith, begun_later b), alt_asks b c.loop-x-test.true c.requires.shallow (omega arith) (omega arith))
+pub alternation-sequence-requires-in-loop-tables : goal.alternation-sequence-requires-in-loop-tables
+alternation-sequence-requires-in-loop-tables t c =
+    let b = c.loop-tables.invariant in
+    let bar : c.loop-tables.x.next.token ≡ Bar = search rules in
+    let ahead = alt_ahead b bar in
+    (omega (arith, begun_later b), alt_asks b bar c.requires.shallow)
 
-pub alternation-returns-in_default-further : goal.alternation-returns-in_default-further
-alternation-returns-in_default-further t c =
-    rw c.in_default-further.is
-    (alt_fault c.loop-x.invariant c.loop-x-test.true c.in_default-further.ensures.0, record { follows = omega arith; names = omega arith })
+pub alternation-returns-in_err-y : goal.alternation-returns-in_err-y
+alternation-returns-in_err-y t c =
+    let bar : c.loop-tables.x.next.token ≡ Bar = search rules in
+    let p = err_from_is_err_and c.from_residual-in_err-y.result c.from_residual-in_err-y.ensures.1 in
+    rw (p.1, p.2) (alt_fault c.loop-tables.invariant bar c.in_err-y.ensures)
 
-pub alternation-loop-x-smaller : goal.alternation-loop-x-smaller
-alternation-loop-x-smaller t c =
-    let ahead = alt_ahead c.loop-x.invariant c.loop-x-test.true in
-    let made = c.in-Read-further.ensures.0 in
-    omega (arith, made_later made)
+pub alternation-loop-tables-smaller : goal.alternation-loop-tables-smaller
+alternation-loop-tables-smaller t c =
+    let bar : c.loop-tables.x.next.token ≡ Bar = search rules in
+    let ahead = alt_ahead c.loop-tables.invariant bar in
+    let y = c.in_ok-y.ensures in
+    omega (arith, made_later y, y.looks.inside, ap (λ (k : Look). k.place) c.parted-x.ensures.next)
 
-pub alternation-loop-x-preserved : goal.alternation-loop-x-preserved
-alternation-loop-x-preserved t c =
-    alt_step c.loop-x.invariant c.loop-x-test.true c.in-Read-further.y c.parted-x.result c.in-Read-further.ensures.0 c.parted-x.ensures
-
-pub alternation-returns : goal.alternation-returns
-alternation-returns t c = (alt_done c.loop-x.invariant c.loop-x-test.false, record { follows = omega arith; names = omega arith })
+pub alternation-loop-tables-preserved : goal.alternation-loop-tables-preserved
+alternation-loop-tables-preserved t c =
+    let bar : c.loop-tables.x.next.token ≡ Bar = search rules in
+    alt_step c.loop-tables.invariant bar c.in_ok-y.y c.parted-x.result c.in_ok-y.ensures c.parted-x.ensures
 
 -- ---- names, and an alternation in parentheses
 
 pub factor-returns-then-used-ge-MOST_STATES : goal.factor-returns-then-used-ge-MOST_STATES
 factor-returns-then-used-ge-MOST_STATES t c =
-    (many_fault c.args.depth c.args.used c.requires.looks c.if-code-lt32.true c.if-used-ge-MOST_STATES.true, record { follows = refl; names = refl })
+    let name = event_at c.requires.looks c.in-Event.is in
+    λ n h. many_fault c.args.depth c.args.used name c.if-used-ge-MOST_STATES.true n
 
-pub factor-marks-requires-clause-within : goal.factor-marks-requires-clause-within
-factor-marks-requires-clause-within t c = (begin_ahead c.requires.looks c.requires.begins).within
+pub factor-bounds-tables-from : goal.factor-bounds-tables-from
+factor-bounds-tables-from t c =
+    omega (arith, letter_below (event_at c.requires.looks c.in-Event.is))
 
-pub factor-returns-then-code-lt32 : goal.factor-returns-then-code-lt32
-factor-returns-then-code-lt32 t c =
-    let letter = letter_at c.requires.looks c.if-code-lt32.true in
-    let shift = one_shl c.args.used 64 c.if-used-ge-MOST_STATES.false in (
-      c.marks.ensures.onward _ _ _ _ _ _ (core_letter letter c.if-code-lt32.true c.if-used-ge-MOST_STATES.false c.requires.asks.names shift),
-      record { follows = c.marks.ensures.long; names = length-set _ _ _ },
-    )
+pub factor-bounds-tables-from-in-Event : goal.factor-bounds-tables-from-in-Event
+factor-bounds-tables-from-in-Event t c =
+    omega (arith, letter_below (event_at c.requires.looks c.in-Event.is))
 
-pub factor-marks-requires-then-code-eq32-clause-within : goal.factor-marks-requires-then-code-eq32-clause-within
-factor-marks-requires-then-code-eq32-clause-within t c = (begin_ahead c.requires.looks c.requires.begins).within
+pub factor-peek-requires : goal.factor-peek-requires
+factor-peek-requires t c = (token_ahead (event_at c.requires.looks c.in-Event.is)).within
 
-pub factor-returns-then-code-eq32 : goal.factor-returns-then-code-eq32
-factor-returns-then-code-eq32 t c = (
-  c.marks-then-code-eq32.ensures.onward _ _ _ _ _ _ (core_unit (unit_at c.requires.looks c.if-code-eq32.true) c.requires.asks.room),
-  record { follows = c.marks-then-code-eq32.ensures.long; names = refl },
-)
+pub factor-peek-requires-in-One : goal.factor-peek-requires-in-One
+factor-peek-requires-in-One t c = (token_ahead (one_at c.requires.looks c.in-One.is)).within
 
-pub factor-marks-requires-then-code-eq33-clause-within : goal.factor-marks-requires-then-code-eq33-clause-within
-factor-marks-requires-then-code-eq33-clause-within t c = (begin_ahead c.requires.looks c.requires.begins).within
-
-pub factor-returns-then-code-eq33 : goal.factor-returns-then-code-eq33
-factor-returns-then-code-eq33 t c = (
-  c.marks-then-code-eq33.ensures.onward _ _ _ _ _ _ (core_void (void_at c.requires.looks c.if-code-eq33.true) c.requires.asks.room),
-  record { follows = c.marks-then-code-eq33.ensures.long; names = refl },
-)
+pub factor-peek-requires-in-Zero : goal.factor-peek-requires-in-Zero
+factor-peek-requires-in-Zero t c = (token_ahead (zero_at c.requires.looks c.in-Zero.is)).within
 
 pub factor-returns-then-depth-ge-MOST_OPEN : goal.factor-returns-then-depth-ge-MOST_OPEN
 factor-returns-then-depth-ge-MOST_OPEN t c =
-    let opens = open_at c.requires.looks c.requires.begins (omega arith) in
-    (deep_fault c.args.depth c.args.used opens c.if-depth-ge-MOST_OPEN.true, record { follows = refl; names = refl })
+    let opens = open_at c.requires.looks c.in-Open.is in
+    λ n h. deep_fault c.args.depth c.args.used opens c.if-depth-ge-MOST_OPEN.true n
 
-pub factor-alternation-inner-requires : goal.factor-alternation-inner-requires
-factor-alternation-inner-requires t c =
-    let ahead = begin_ahead c.requires.looks c.requires.begins in
-    let asks = c.requires.asks in
-    (omega arith, record { inside = ahead.within; room = asks.room; shallow = omega arith; follows = asks.follows; names = asks.names })
+pub factor-alternation-requires : goal.factor-alternation-requires
+factor-alternation-requires t c =
+    let ahead = token_ahead (open_at c.requires.looks c.in-Open.is) in
+    (omega arith, record { inside = ahead.within; room = c.requires.asks.room; shallow = omega arith })
+
+pub factor-returns-in_err-inner-in-Open : goal.factor-returns-in_err-inner-in-Open
+factor-returns-in_err-inner-in-Open t c =
+    let opens = open_at c.requires.looks c.in-Open.is in
+    let p = err_from_is_err_and c.from_residual.result c.from_residual.ensures.1 in
+    rw (p.1, p.2) (λ n h. inner_fault c.args.depth c.args.used opens c.if-depth-ge-MOST_OPEN.false c.in_err-inner-in-Open.ensures n)
+
+pub factor-returns-then-ne : goal.factor-returns-then-ne
+factor-returns-then-ne t c =
+    let opens = open_at c.requires.looks c.in-Open.is in
+    let open_still : c.in_ok-inner-in-Open.inner.next.token ≡ Close → ⊥ = search rules in
+    λ n h. close_fault c.args.depth c.args.used opens c.if-depth-ge-MOST_OPEN.false c.in_ok-inner-in-Open.ensures open_still n
+
+pub factor-peek-requires-in-Open : goal.factor-peek-requires-in-Open
+factor-peek-requires-in-Open t c =
+    let closes : c.in_ok-inner-in-Open.inner.next.token ≡ Close = search rules in
+    (token_ahead (close_at c.in_ok-inner-in-Open.ensures.looks closes)).within
 
 pub factor-returns-in_default : goal.factor-returns-in_default
 factor-returns-in_default t c =
-    let opens = open_at c.requires.looks c.requires.begins (omega arith) in
-    rw c.in_default.is (inner_fault c.args.depth c.args.used opens c.if-depth-ge-MOST_OPEN.false c.in_default.ensures.0, c.in_default.ensures.1)
-
-pub factor-returns-then-x-ne39 : goal.factor-returns-then-x-ne39
-factor-returns-then-x-ne39 t c =
-    let opens = open_at c.requires.looks c.requires.begins (omega arith) in
-    (close_fault c.args.depth c.args.used opens c.if-depth-ge-MOST_OPEN.false c.in-Read.ensures.0 c.if-x-ne39.true, c.in-Read.ensures.1)
-
-pub factor-marks-requires-2-clause-within : goal.factor-marks-requires-2-clause-within
-factor-marks-requires-2-clause-within t c = close_within c.in-Read.ensures.0.looks c.if-x-ne39.false
+    let d = c.in_default in
+    λ n h. none_fault c.args.depth c.args.used c.requires.looks (not_begins c.args.next.token d.not-Event d.not-One d.not-Zero d.not-Open) n h
 
 pub factor-returns : goal.factor-returns
 factor-returns t c =
-    let opens = open_at c.requires.looks c.requires.begins (omega arith) in (
-      c.marks-2.ensures.onward _ _ _ _ _ _ (core_group opens c.if-depth-ge-MOST_OPEN.false c.in-Read.ensures.0 c.if-x-ne39.false),
-      record { follows = omega arith; names = omega arith },
-    )
+    c.marks.ensures.onward c.args.next.place c.args.depth c.args.used c.args.tables.now
+    (elim c.match-next.branch [
+      | factor-in-Event+else-used-ge-MOST_STATES w ↦
+          let name = event_at c.requires.looks w.in-Event.is in
+          let shift = one_shl c.args.used 64 w.if-used-ge-MOST_STATES.false in
+          let names : length c.args.tables.now.named ≡ 32 = search rules in
+          rw (w.tables-is, w.x-is, w.from.ensures)
+          (core_gap (core_letter name (letter_below name) w.if-used-ge-MOST_STATES.false names shift) w.peek.ensures.gaps)
+      | factor-in-One w ↦
+          rw (w.tables-is, w.x-is) (core_gap (core_unit (one_at c.requires.looks w.in-One.is) c.requires.asks.room) w.peek-in-One.ensures.gaps)
+      | factor-in-Zero w ↦
+          rw (w.tables-is, w.x-is)
+          (core_gap (core_void (zero_at c.requires.looks w.in-Zero.is) c.requires.asks.room) w.peek-in-Zero.ensures.gaps)
+      | factor-in-Open+else-depth-ge-MOST_OPEN+in_ok-inner-in-Open+else-ne w ↦
+          let opens = open_at c.requires.looks w.in-Open.is in
+          let inner = w.in_ok-inner-in-Open.ensures in
+          let closes : w.in_ok-inner-in-Open.inner.next.token ≡ Close = search rules in
+          rw (w.tables-is, w.x-is)
+          (core_gap (core_group opens w.if-depth-ge-MOST_OPEN.false inner (close_at inner.looks closes)) w.peek-in-Open.ensures.gaps)
+    ])
 
 -- ---- factors, one after the other
 
-pub sequence-returns-then-not-begins : goal.sequence-returns-then-not-begins
-sequence-returns-then-not-begins t c =
-    (none_fault c.args.depth c.args.used c.peek-next.ensures (sym c.if-not-begins.ensures), record { follows = refl; names = refl })
-
-pub sequence-factor-head-requires : goal.sequence-factor-head-requires
-sequence-factor-head-requires t c =
+pub sequence-factor-requires : goal.sequence-factor-requires
+sequence-factor-requires t c =
     let looks = c.peek-next.ensures.looks in
-    let begins = sym c.if-not-begins.ensures in
-    let ahead = begin_ahead looks begins in
-    (omega (arith, peek_le c.peek-next.ensures), factor_asks looks begins c.requires.room c.requires.shallow c.requires.follows c.requires.names)
+    (omega (arith, peek_le c.peek-next.ensures), (record { inside = looks.inside; room = c.requires.room; shallow = c.requires.shallow }, looks))
 
-pub sequence-returns-in_default : goal.sequence-returns-in_default
-sequence-returns-in_default t c =
-    rw c.in_default.is (head_fault c.args.depth c.args.used c.peek-next.ensures c.in_default.ensures.0, c.in_default.ensures.1)
+pub sequence-returns-in_err-x : goal.sequence-returns-in_err-x
+sequence-returns-in_err-x t c =
+    let p = err_from_is_err_and c.from_residual.result c.from_residual.ensures.1 in
+    rw (p.1, p.2) (head_fault c.args.depth c.args.used c.peek-next.ensures.gaps (c.in_err-x.ensures true (inl refl)))
 
-pub sequence-loop-follow-init : goal.sequence-loop-follow-init
-sequence-loop-follow-init t c = seq_first c.peek-next.ensures.gaps c.in-Read.ensures.0
+pub sequence-loop-tables-init : goal.sequence-loop-tables-init
+sequence-loop-tables-init t c = seq_first c.peek-next.ensures.gaps c.in_ok-x.ensures
 
-pub sequence-factor-further-requires : goal.sequence-factor-further-requires
-sequence-factor-further-requires t c =
-    let b = c.loop-follow.invariant in
-    let begins = sym c.loop-follow-test.ensures in
-    let ahead = begin_ahead b.looks begins in
-    (omega (arith, begun_later b), factor_asks b.looks begins b.core.room c.requires.shallow (omega arith) (omega arith))
+pub sequence-factor-requires-in-loop-tables : goal.sequence-factor-requires-in-loop-tables
+sequence-factor-requires-in-loop-tables t c =
+    let b = c.loop-tables.invariant in
+    (omega (arith, begun_later b), (record { inside = b.looks.inside; room = b.core.room; shallow = c.requires.shallow }, b.looks))
 
-pub sequence-returns-in_default-further : goal.sequence-returns-in_default-further
-sequence-returns-in_default-further t c =
-    rw c.in_default-further.is
-    (seq_fault c.loop-follow.invariant c.in_default-further.ensures.0, record { follows = omega arith; names = omega arith })
+pub sequence-returns-in_err-y : goal.sequence-returns-in_err-y
+sequence-returns-in_err-y t c =
+    let p = err_from_is_err_and c.from_residual-in_err-y.result c.from_residual-in_err-y.ensures.1 in
+    rw (p.1, p.2) (seq_fault c.loop-tables.invariant (c.in_err-y.ensures false (inr (sym c.loop-tables-test.ensures))))
 
-pub sequence-loop-follow-smaller : goal.sequence-loop-follow-smaller
-sequence-loop-follow-smaller t c =
-    let made = c.in-Read-further.ensures.0 in
-    omega (arith, made_more made)
+pub sequence-loop-tables-smaller : goal.sequence-loop-tables-smaller
+sequence-loop-tables-smaller t c =
+    let y = c.in_ok-y.ensures in
+    omega (arith, made_more y, y.looks.inside, ap (λ (k : Look). k.place) c.chained-x.ensures.next)
 
-pub sequence-loop-follow-preserved : goal.sequence-loop-follow-preserved
-sequence-loop-follow-preserved t c =
-    seq_step c.loop-follow.invariant c.in-Read-further.y c.chained-x.result c.in-Read-further.ensures.0 c.link.ensures c.chained-x.ensures
-
-pub sequence-returns : goal.sequence-returns
-sequence-returns t c =
-    (seq_done c.loop-follow.invariant (sym c.loop-follow-test.ensures), record { follows = omega arith; names = omega arith })
+pub sequence-loop-tables-preserved : goal.sequence-loop-tables-preserved
+sequence-loop-tables-preserved t c =
+    seq_step c.loop-tables.invariant c.in_ok-y.y c.chained-x.result c.in_ok-y.ensures c.link.ensures c.chained-x.ensures

@@ -8,19 +8,19 @@ abbrev pub decreases-alternation : goal.decreases-alternation
 decreases-alternation l = (length l.text.now - l.at) * 3 + 2
 
 abbrev pub decreases-factor : goal.decreases-factor
-decreases-factor l = (length l.text.now - l.place) * 3
+decreases-factor l = (length l.text.now - l.next.place) * 3
 
 abbrev pub decreases-sequence : goal.decreases-sequence
 decreases-sequence l = (length l.text.now - l.at) * 3 + 1
 
-abbrev pub invariant-alternation-loop-x : goal.invariant-alternation-loop-x
-invariant-alternation-loop-x l = Begun alternation sequence l.text l.at l.depth l.used l.fn.follow l.follow l.fn.named l.named l.x
+abbrev pub invariant-alternation-loop-tables : goal.invariant-alternation-loop-tables
+invariant-alternation-loop-tables l = Begun alternation sequence l.text l.at l.depth l.used l.fn.tables l.tables l.x
 
-abbrev pub decreases-alternation-loop-x : goal.decreases-alternation-loop-x
-decreases-alternation-loop-x l = length l.text - l.x.place
+abbrev pub decreases-alternation-loop-tables : goal.decreases-alternation-loop-tables
+decreases-alternation-loop-tables l = length l.text - l.x.next.place
 
-abbrev pub invariant-sequence-loop-follow : goal.invariant-sequence-loop-follow
-invariant-sequence-loop-follow l = Begun sequence factor l.text l.at l.depth l.used l.fn.follow l.follow l.fn.named l.named l.x
+abbrev pub invariant-sequence-loop-tables : goal.invariant-sequence-loop-tables
+invariant-sequence-loop-tables l = Begun sequence factor l.text l.at l.depth l.used l.fn.tables l.tables l.x
 
-abbrev pub decreases-sequence-loop-follow : goal.decreases-sequence-loop-follow
-decreases-sequence-loop-follow l = length l.text - l.x.place
+abbrev pub decreases-sequence-loop-tables : goal.decreases-sequence-loop-tables
+decreases-sequence-loop-tables l = length l.text - l.x.next.place

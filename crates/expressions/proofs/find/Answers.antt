@@ -3,7 +3,6 @@ use mathlib.Core.Path.{◌≡◌, sym, ◌∙◌}
 use Prim.Native.Nat.{◌-◌}
 use native.Mathlib.Omega.{arith}
 use Rattle.expressions.specs.Texts.{look_up}
-use Rattle.expressions.specs.Pieces.{decode}
 use Rattle.expressions.proofs.Looking.{found, passed}
 use Rattle.expressions.proofs.find.Goals as goal
 
@@ -16,7 +15,7 @@ loop-letter-preserved c =
     passed c.args.run.now c.loop-letter.letter c.loop-letter-test.true c.loop-letter.invariant (sym c.name_is.ensures ∙ c.if-name_is.false)
 
 pub returns : goal.returns
-unfolding look_up decode
+unfolding look_up
 returns c =
     let none : 32 - c.loop-letter.letter ≡ 0 = omega arith in
-    record { known = omega arith; not_end = λ e. omega arith; item = rw none at c.loop-letter.invariant }
+    record { item = rw none at c.loop-letter.invariant; not_end = λ j. cc }

@@ -1,23 +1,35 @@
 -- One mark more.
+use mathlib.Core.Path.{sym, ◌∙◌}
 use native.Mathlib.Omega.{arith}
-use Rattle.expressions.proofs.Marking.{marks_first, marks_step, mark_past, peek_le}
+use Rattle.expressions.proofs.Marking.{Goes, marks_first, marks_step, marks_done, mark_ahead, peek_le}
+use Rattle.expressions.proofs.Marking.Goes.{back, on}
 use Rattle.expressions.proofs.marks.Goals as goal
+use Rattle.expressions.proofs.marks.Goals.{then-loops, else-loops}
 
-pub loop-follow-init : goal.loop-follow-init
-loop-follow-init c =
-    marks_first c.args.text.now c.args.empty c.args.first c.args.last c.args.used c.args.at c.args.follow.now c.peek-next.result
-    c.requires.states_long c.peek-next.ensures
+pub loop-x-init : goal.loop-x-init
+loop-x-init c = marks_first c.args.text.now c.args.x c.args.tables.now c.requires
 
-pub peek-next-requires-in-loop-follow : goal.peek-next-requires-in-loop-follow
-peek-next-requires-in-loop-follow c = (mark_past c.loop-follow.invariant.looks (c.is_mark.ensures.is c.loop-follow-test.true)).1
+pub peek-x-requires : goal.peek-x-requires
+peek-x-requires c = (mark_ahead c.loop-x.invariant.looks c.in-Postfix.is).within
 
-pub loop-follow-smaller : goal.loop-follow-smaller
-loop-follow-smaller c =
-    let past = mark_past c.loop-follow.invariant.looks (c.is_mark.ensures.is c.loop-follow-test.true) in
-    omega (arith, past.0, past.1, peek_le c.peek-next-in-loop-follow.ensures, c.peek-next-in-loop-follow.ensures.looks.inside)
+pub loop-x-smaller : goal.loop-x-smaller
+loop-x-smaller c =
+    let ahead = mark_ahead c.loop-x.invariant.looks c.in-Postfix.is in
+    omega (arith, peek_le c.peek-x.ensures, c.peek-x.ensures.looks.inside)
 
-pub loop-follow-preserved : goal.loop-follow-preserved
-loop-follow-preserved c =
-    marks_step c.args.text.now c.args.empty c.args.first c.args.last c.args.used c.args.at c.args.follow.now
-    c.loop-follow.follow c.looped.new.follow c.loop-follow.null c.nulled-null.result c.loop-follow.next c.peek-next-in-loop-follow.result
-    c.loop-follow.invariant (c.is_mark.ensures.is c.loop-follow-test.true) c.looped.ensures c.nulled-null.ensures c.peek-next-in-loop-follow.ensures
+pub loop-x-preserved : goal.loop-x-preserved
+loop-x-preserved c =
+    let m = c.in-Postfix.mark in
+    let x = c.loop-x.x in
+    let goes : Goes m x.first x.last c.loop-x.tables c.if-loops.tables =
+    elim c.if-loops.branch [
+      | then-loops w ↦ back (sym c.loops.ensures ∙ w.if-loops.true) (rw w.tables-is w.link.ensures)
+      | else-loops w ↦ on (sym c.loops.ensures ∙ w.if-loops.false) w.tables-is
+    ]
+    in
+    rw c.takes_empty.ensures
+    (marks_step c.args.text.now c.args.x c.args.tables.now c.loop-x.tables c.if-loops.tables x m c.peek-x.result c.loop-x.invariant c.in-Postfix.is
+    goes c.peek-x.ensures)
+
+pub returns : goal.returns
+returns c = marks_done c.loop-x.invariant c.in_default.not-Postfix

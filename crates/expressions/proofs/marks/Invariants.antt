@@ -4,8 +4,8 @@ use lib.ListN.{length}
 use Rattle.expressions.proofs.Marking.{Marking}
 use Rattle.expressions.proofs.marks.Given as goal
 
-abbrev pub invariant-loop-follow : goal.invariant-loop-follow
-invariant-loop-follow l = Marking l.text l.empty l.first l.last l.used l.at l.fn.follow l.follow l.null l.next
+abbrev pub invariant-loop-x : goal.invariant-loop-x
+invariant-loop-x l = Marking l.text l.fn.x l.fn.tables l.tables l.x
 
-abbrev pub decreases-loop-follow : goal.decreases-loop-follow
-decreases-loop-follow l = length l.text - l.next.place
+abbrev pub decreases-loop-x : goal.decreases-loop-x
+decreases-loop-x l = length l.text - l.x.next.place

@@ -3,7 +3,7 @@ use Rattle.numbers.proofs.WriterLoops.{Writing}
 use Rattle.numbers.proofs.write.Given as goal
 
 abbrev pub invariant-loop-rest : goal.invariant-loop-rest
-invariant-loop-rest l = Writing l.fn.out l.at l.v l.out l.rest l.place
+invariant-loop-rest l = Writing l.fn.page l.v l.page l.rest
 
 abbrev pub decreases-loop-rest : goal.decreases-loop-rest
 decreases-loop-rest l = l.rest

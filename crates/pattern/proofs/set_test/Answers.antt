@@ -4,6 +4,7 @@ use borrow.Author.Tests.{lt-ltb}
 use native.Mathlib.Nat.{lt_of_lt_of_le}
 use lib.Pow.{pow_mono}
 use Rattle.verdict.specs.Tests.{need}
+use Rattle.verdict.proofs.Refusals.{said_held}
 use Rattle.pattern.specs.Tests.{set_test}
 use Rattle.pattern.proofs.Validity.{set_shift}
 use Rattle.pattern.proofs.set_test.Goals as goal
@@ -14,4 +15,4 @@ returns-then-states-ge-MASK_BITS c = rw (lt-ltb _ _ (lt_of_lt_of_le c.ranges.mas
 
 pub returns : goal.returns
 unfolding set_test
-returns c = rw (set_shift _ _) c.need.ensures
+returns c = rw (set_shift _ _, c.need.ensures) (said_held _ _)

@@ -1,13 +1,9 @@
--- `pattern::sets_test` tests each mask in turn.
-use mathlib.Core.Path.{sym, ◌∙◌}
-use Rattle.verdict.proofs.Each.{passed_more, passed_stop, passed_all}
+-- `pattern::sets_test` tests each mask.
+use Rattle.std.proofs.Common.{rules}
+use Rattle.pattern.specs.Tests.{set_test}
+use Rattle.verdict.specs.Tests.{each}
 use Rattle.pattern.proofs.sets_test.Goals as goal
 
-pub returns-in_default : goal.returns-in_default
-returns-in_default c = c.in_default.is ∙ sym (passed_stop c.loop-i-test.true c.loop-i.invariant (sym c.in_default.ensures))
-
-pub loop-i-preserved : goal.loop-i-preserved
-loop-i-preserved c = passed_more c.loop-i-test.true c.loop-i.invariant (sym c.in-Fine.ensures)
-
 pub returns : goal.returns
-returns c = sym (passed_all c.loop-i-test.false c.loop-i.invariant)
+unfolding each
+returns c = c.every.ensures.each (set_test c.args.states) (λ v r h. search rules)

@@ -1,14 +1,12 @@
 -- `pattern::size_test` is the definition of that name.
-use mathlib.Core.Path.{refl}
-use borrow.Author.Tests.{le-leb, lt-leb}
-use Rattle.verdict.specs.Tests.{need}
+use Rattle.std.proofs.Common.{rules, ◌≡◌}
+use Rattle.std.specs.Prelude.{◌&&◌, nat_le}
+use Rattle.verdict.proofs.Refusals.{said_held}
 use Rattle.pattern.specs.Tests.{size_test}
 use Rattle.pattern.proofs.size_test.Goals as goal
 
-pub returns-then-v-lt1 : goal.returns-then-v-lt1
-unfolding size_test need
-returns-then-v-lt1 c = rw (lt-leb 1 c.args.v c.if-v-lt1.true) refl
-
 pub returns : goal.returns
 unfolding size_test
-returns c = rw (le-leb 1 c.args.v c.if-v-lt1.false) c.need.ensures
+returns c =
+    let e : c.contains.result ≡ (nat_le 1 c.args.v && nat_le c.args.v c.args.most) = search rules in
+    rw (c.need.ensures, e) (said_held _ _)

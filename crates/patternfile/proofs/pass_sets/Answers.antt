@@ -1,15 +1,18 @@
 -- `patternfile::pass_sets` judges so many sets: `Passing` follows the loop.
-use Prim.Native.Nat.{ℕ}
-use mathlib.Core.Path.{ap, ◌∙◌}
-use Rattle.numbers.specs.declared.Number.TheVariants.{Value}
-use Rattle.patternfile.proofs.Passing.{passing_stopped, passing_step, passing_done}
+use Rattle.std.proofs.Common.{rules, ◌≡◌, Err}
+use Rattle.patternfile.proofs.Passing.{passing_first, passing_stopped, passing_step, passing_done}
 use Rattle.patternfile.proofs.pass_sets.Goals as goal
 
-pub returns-in_default : goal.returns-in_default
-returns-in_default c = passing_stopped c.loop-left.invariant c.loop-left-test.true c.read_set-set.ensures c.in_default.is
+pub loop-init : goal.loop-init
+loop-init c = passing_first
 
-pub loop-left-preserved : goal.loop-left-preserved
-loop-left-preserved c = passing_step c.loop-left.invariant c.loop-left-test.true c.read_set-set.ensures c.in-Value.is
+pub returns-in_err-place : goal.returns-in_err-place
+returns-in_err-place c =
+    let e : c.from_residual.result ≡ Err c.in_err-place.field-0.0 = search rules in
+    rw e (passing_stopped c.loop.invariant c.loop-test.true c.in_err-place.ensures)
+
+pub loop-preserved : goal.loop-preserved
+loop-preserved c = passing_step c.loop.invariant c.loop-test.true c.in_ok-place.ensures
 
 pub returns : goal.returns
-returns c = ap (λ (m : ℕ). Value m c.loop-left.place) c.wide.ensures ∙ passing_done c.loop-left.invariant c.loop-left-test.false
+returns c = passing_done c.loop.invariant c.loop-test.false

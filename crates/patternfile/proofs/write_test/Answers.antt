@@ -1,43 +1,22 @@
 -- `patternfile::write_test` makes the writer's tests in their order.
-use Prim.Native.Nat.{ℕ}
-use mathlib.Core.Path.{sym, ap, ◌∙◌}
-use lib.Dec.{leb}
-use Rattle.verdict.specs.Tests.{need}
-use Rattle.verdict.proofs.Ordered.{order_stop, order_next, order_last}
+use Rattle.std.proofs.Common.{rules}
+use Rattle.verdict.proofs.Refusals.{stops, goes_on, ends, said_held}
 use Rattle.pattern.specs.Tests.{space_test}
 use Rattle.patternfile.specs.Writer.{write_test}
 use Rattle.patternfile.proofs.write_test.Goals as goal
 
-pub returns-in_default : goal.returns-in_default
+pub returns-in_err-pattern_test : goal.returns-in_err-pattern_test
 unfolding write_test
-returns-in_default c =
-    let first = c.pattern_test-pattern.ensures in
-    first ∙ sym (order_stop _ _ (sym first ∙ c.in_default.is))
+returns-in_err-pattern_test c = stops _ (search rules) c.in_err-pattern_test.ensures
 
-pub returns-in_default-x_test : goal.returns-in_default-x_test
+pub returns-in_err-set_test : goal.returns-in_err-set_test
 unfolding write_test
-returns-in_default-x_test c =
-    let second = c.set_test-x_test.ensures in
-    second
-    ∙ sym (order_next _ _ (sym c.pattern_test-pattern.ensures ∙ c.in-Fine.is) ∙ order_stop _ _ (sym second ∙ c.in_default-x_test.is))
+returns-in_err-set_test c = goes_on _ c.in_ok-pattern_test.ensures (stops _ (search rules) c.in_err-set_test.ensures)
 
-pub returns-in_default-y_test : goal.returns-in_default-y_test
+pub returns-in_err-set_test-2 : goal.returns-in_err-set_test-2
 unfolding write_test
-returns-in_default-y_test c =
-    let third = c.set_test-y_test.ensures in
-    third
-    ∙ sym
-    (order_next _ _ (sym c.pattern_test-pattern.ensures ∙ c.in-Fine.is)
-    ∙ order_next _ _ (sym c.set_test-x_test.ensures ∙ c.in-Fine-x_test.is)
-    ∙ order_stop _ _ (sym third ∙ c.in_default-y_test.is))
+returns-in_err-set_test-2 c = goes_on _ c.in_ok-pattern_test.ensures (goes_on _ c.in_ok-set_test.ensures (stops _ (search rules) c.in_err-set_test-2.ensures))
 
 pub returns : goal.returns
 unfolding write_test space_test
-returns c =
-    c.need.ensures
-    ∙ ap (λ (m : ℕ). need (leb m c.args.room) 14) c.file_size.ensures
-    ∙ sym
-    (order_next _ _ (sym c.pattern_test-pattern.ensures ∙ c.in-Fine.is)
-    ∙ order_next _ _ (sym c.set_test-x_test.ensures ∙ c.in-Fine-x_test.is)
-    ∙ order_next _ _ (sym c.set_test-y_test.ensures ∙ c.in-Fine-y_test.is)
-    ∙ order_last _)
+returns c = goes_on _ c.in_ok-pattern_test.ensures (goes_on _ c.in_ok-set_test.ensures (goes_on _ c.in_ok-set_test-2.ensures (ends (rw (c.need.ensures, c.file_size.ensures) (said_held _ _)))))

@@ -7,8 +7,8 @@ use Rattle.probes.proofs.probe_close.Goals as goal
 
 pub returns-then-lefts-rights : goal.returns-then-lefts-rights
 unfolding sides_test
-returns-then-lefts-rights c = probe_done (need_holds _ 16 (eq-eqb _ _ c.if-lefts-rights.true)) c.close.ensures
+returns-then-lefts-rights c = rw c.from.ensures (probe_refused _ (need_fails _ 16 (ne_eqb _ _ c.if-lefts-rights.true)))
 
 pub returns : goal.returns
 unfolding sides_test
-returns c = probe_refused _ (need_fails _ 16 (ne_eqb _ _ c.if-lefts-rights.false))
+returns c = rw c.from-2.ensures (probe_done (need_holds _ 16 (eq-eqb _ _ c.if-lefts-rights.false)) c.close.ensures)

@@ -2,17 +2,13 @@
 use borrow.Author.Tests.{eq-eqb, ne_eqb}
 use Rattle.verdict.proofs.Ordered.{need_holds, need_fails}
 use Rattle.probes.specs.Probes.{sides_test}
-use Rattle.probes.proofs.Probing.{probe_done, probe_refused, says_yes, says_no}
+use Rattle.probes.proofs.Probing.{probe_done, probe_refused, says}
 use Rattle.probes.proofs.probe_congruent.Goals as goal
-
-pub returns-then-congruent : goal.returns-then-congruent
-unfolding sides_test
-returns-then-congruent c = probe_done (need_holds _ 16 (eq-eqb _ _ c.if-lefts-rights.true)) (says_yes c.congruent.ensures c.if-congruent.true)
 
 pub returns-then-lefts-rights : goal.returns-then-lefts-rights
 unfolding sides_test
-returns-then-lefts-rights c = probe_done (need_holds _ 16 (eq-eqb _ _ c.if-lefts-rights.true)) (says_no c.congruent.ensures c.if-congruent.false)
+returns-then-lefts-rights c = rw c.from.ensures (probe_refused _ (need_fails _ 16 (ne_eqb _ _ c.if-lefts-rights.true)))
 
 pub returns : goal.returns
 unfolding sides_test
-returns c = probe_refused _ (need_fails _ 16 (ne_eqb _ _ c.if-lefts-rights.false))
+returns c = rw (c.from-3.ensures, c.from-2.ensures) (probe_done (need_holds _ 16 (eq-eqb _ _ c.if-lefts-rights.false)) (says c.congruent.ensures))

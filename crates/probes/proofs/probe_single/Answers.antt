@@ -7,8 +7,8 @@ use Rattle.probes.proofs.probe_single.Goals as goal
 
 pub returns-then-s-lt64 : goal.returns-then-s-lt64
 unfolding state_test
-returns-then-s-lt64 c = probe_done (need_holds _ 12 (lt-ltb _ _ c.if-s-lt64.true)) c.single-single.ensures
+returns-then-s-lt64 c = rw c.from.ensures (probe_done (need_holds _ 12 (lt-ltb _ _ c.if-s-lt64.true)) c.single.ensures)
 
 pub returns : goal.returns
 unfolding state_test
-returns c = probe_refused _ (need_fails _ 12 (le-ltb _ _ c.if-s-lt64.false))
+returns c = rw c.from-2.ensures (probe_refused _ (need_fails _ 12 (le-ltb _ _ c.if-s-lt64.false)))

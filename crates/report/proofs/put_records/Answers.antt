@@ -1,41 +1,23 @@
 -- `report::put_records` puts a line for each record, in each turn the next of those that are left.
-use Rattle.std.proofs.Common.{[], ◌∷◌, ◌+◌, ◌<◌, length, drop, get_or, arith}
-use Rattle.text.specs.Text.{decimal, line}
-use Rattle.lent.proofs.Putting.{left_first, left_room, left_step, left_done}
-use Rattle.report.specs.Inner.{pair_lines}
+use Rattle.std.proofs.Common.{◌≡◌}
+use Rattle.std.proofs.lemmas.Slice.Zip.{either_empty_from_Zip}
+use Rattle.std.specs.Iterator.Adapters.{zip_first, zip_second}
+use Rattle.std.specs.Slice.Iter.{iter_rest}
+use Rattle.lent.proofs.Filling.{to_put_first, to_put_fits, to_put_step, to_put_done}
 use Rattle.report.proofs.Lines.{pairs_none, pairs_step}
 use Rattle.report.proofs.put_records.Goals as goal
 
-pub loop-record-init : goal.loop-record-init
-loop-record-init c =
-    record {
-      within = omega arith;
-      left = left_first c.args.out.now c.args.at (pair_lines c.args.lefts.now c.args.rights.now) c.requires.rights_in_bounds;
-    }
+pub loop-left-init : goal.loop-left-init
+loop-left-init c =
+    let first : iter_rest (zip_first c.into_iter-left-iterator.result) ≡ c.args.lefts.now = cc in
+    let second : iter_rest (zip_second c.into_iter-left-iterator.result) ≡ c.args.rights.now = cc in
+    rw (first, second) (to_put_first _ _ c.requires)
 
-pub put_record-place-requires : goal.put_record-place-requires
-put_record-place-requires c =
-    let lefts = c.args.lefts.now in
-    let rights = c.args.rights.now in
-    let i = c.loop-record.record in
-    let in_rights : i < length rights = omega arith in
-    left_room (line (decimal (get_or lefts i 0) ∷ decimal (get_or rights i 0) ∷ [])) (pair_lines (drop (i + 1) lefts) (drop (i + 1) rights))
-    c.loop-record.invariant.left
-    (pairs_step lefts rights i c.loop-record-test.true in_rights)
+pub put_line-requires : goal.put_line-requires
+put_line-requires c = to_put_fits c.loop-left.invariant (pairs_step c.in-Some.ensures.steps.0 c.in-Some.ensures.steps.1)
 
-pub loop-record-preserved : goal.loop-record-preserved
-loop-record-preserved c =
-    let lefts = c.args.lefts.now in
-    let rights = c.args.rights.now in
-    let i = c.loop-record.record in
-    let in_rights : i < length rights = omega arith in
-    record {
-      within = omega arith;
-      left =
-          left_step (pair_lines (drop (i + 1) lefts) (drop (i + 1) rights)) c.loop-record.invariant.left
-          (pairs_step lefts rights i c.loop-record-test.true in_rights)
-          c.put_record-place.ensures;
-    }
+pub loop-left-preserved : goal.loop-left-preserved
+loop-left-preserved c = to_put_step c.loop-left.invariant (pairs_step c.in-Some.ensures.steps.0 c.in-Some.ensures.steps.1) c.put_line.ensures
 
 pub returns : goal.returns
-returns c = left_done c.loop-record.invariant.left (pairs_none c.args.lefts.now c.args.rights.now c.loop-record.record c.loop-record-test.false)
+returns c = to_put_done c.loop-left.invariant (pairs_none _ _ (either_empty_from_Zip c.loop-left.left-iterator c.next.new.self _ c.in-None.is c.next.ensures.steps))

@@ -1,7 +1,7 @@
 -- The loop of `records::compares::fill`: the records before `i` are written.
 use Rattle.std.proofs.Common.{◌≡◌}
-use Rattle.records.specs.Inner.{as_columns, filled}
+use Rattle.records.specs.Inner.{columns_lent, filled}
 use Rattle.records.proofs.compares.fill.Given as goal
 
 abbrev pub invariant-loop-i : goal.invariant-loop-i
-invariant-loop-i l = l.records ≡ filled (as_columns l.lefts l.rights l.parents l.taken) l.initial.records l.i
+invariant-loop-i l = l.records ≡ filled (columns_lent l.tables) l.initial.records l.i
