@@ -27,7 +27,7 @@ LINE = re.compile(r"^rt: must-fail (\w+/\w+)\.edit: (.*)$", re.M)
 SHAPE = re.compile(r"has no field|this tuple has|is applied to an argument but|does not parse|this clause |write the clause|too many|too few")
 FACT = re.compile(
     r"it is not proved that |: error: `[^`]+`: (?:`omega`: .*does not follow from what it read|`rw`: no occurrence of |`simp`: no equation of "
-    r"|`search`: no proof of |give a proof of that as the last argument, |list the missing equation|(?:as printed|computed as far as they go), the two (?:types|sides|indices) "
+    r"|give a proof of that as the last argument, |list the missing equation|(?:as printed|computed as far as they go), the two (?:types|sides|indices) "
     r"|computed as a goal is, one side reads `|expected type `|this `[^`]+` lands at index `)"
 )
 # what the check of a proof asks for where a type of data stands and no fact
