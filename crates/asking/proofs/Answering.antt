@@ -8,7 +8,7 @@ use Rattle.verdict.specs.Verdict.Verdict.{Fine}
 use Rattle.verdict.proofs.Ordered.{apart}
 use Rattle.lent.specs.Lent.{lay}
 use Rattle.numbers.specs.Numbers.{AreBytes}
-use Rattle.std.specs.Prelude.{Ok, Err}
+use Rattle.std.specs.Prelude.{Result, Ok, Err}
 use Rattle.verdict.specs.declared.Refusal.{Refusal}
 use Rattle.verdict.specs.declared.Refusal.TheVariants.{BadSize, BadSet, NoRoom, Cut, Padded, Tail, TooBig}
 use Rattle.verdict.specs.declared.Fault.{Fault}
@@ -107,13 +107,19 @@ module _ {input rows : List ℕ} {f : PatternNumbers} {new : List ℕ} (t : Acce
   rows_laid : new ≡ lay (take (f.states * f.letters) new) rows
   rows_laid = rw rows_read t.done.written
 
-  module _ {P : Pattern} (found : P ≡ pattern) {room : ℕ} {lent : Lent} (roomy : Roomy room lent) where
-    pub accepted_answers : {answer : Answer} {l : Lent} → Compared (call_for (question P) room lent) (Ok answer) l → Answers room input rows lent (Ok answer) new l
+  -- compared in the room that was asked for
+  module _ {P : Pattern} (found : P ≡ pattern) {room asked : ℕ} (same : asked ≡ room) {lent : Lent} (roomy : Roomy room lent) where
+    compared_here : {a : Result Answer Refusal} {l : Lent} → Compared (call_for (question P) asked lent) a l → Compared (call_for (question pattern) room lent) a l
+    compared_here {a} {l} compared =
+        subst (λ (m : ℕ). Compared (call_for (question pattern) m lent) a l) same (subst (λ (P : Pattern). Compared (call_for (question P) asked lent) a l) found compared)
+
+    pub accepted_answers : {answer : Answer} {l : Lent} → Compared (call_for (question P) asked lent) (Ok answer) l → Answers room input rows lent (Ok answer) new l
     accepted_answers {answer} {l} compared =
-        subst (λ (s : List ℕ). Answers room input rows lent (Ok answer) s l) (sym rows_laid)
-        (answered t.bytes asks roomy (subst (λ (P : Pattern). Compared (call_for (question P) room lent) (Ok answer) l) found compared) rows)
+        subst (λ (s : List ℕ). Answers room input rows lent (Ok answer) s l) (sym rows_laid) (answered t.bytes asks roomy (compared_here compared) rows)
 
     -- the comparison refuses no file that was read
-    pub accepted_compared : {why : Refusal} {l : Lent} → Compared (call_for (question P) room lent) (Err why) l → ⊥
-    accepted_compared (Compared.refuses against) =
-        apart (subst (λ (P : Pattern). compare_test (call_for (question P) room lent) ≡ Fine) (sym found) (never_refused t.bytes asks roomy)) against
+    pub accepted_compared : {why : Refusal} {l : Lent} → Compared (call_for (question P) asked lent) (Err why) l → ⊥
+    accepted_compared compared = refused_never (compared_here compared)
+      where
+        refused_never : {why : Refusal} {l : Lent} → Compared (call_for (question pattern) room lent) (Err why) l → ⊥
+        refused_never (Compared.refuses against) = apart (never_refused t.bytes asks roomy) against

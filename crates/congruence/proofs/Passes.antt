@@ -36,6 +36,10 @@ added_by {a} {m} {flag} b d = rw (decides_determined flag _ d test) refl
     test : Decides (Within a m) (eqb (bit_and a m) a)
     test = record { sound = λ e. (within_test a m).0 (eqb-true _ _ e); complete = λ e w. eqb-false _ _ e ((within_test a m).1 w) }
 
+-- where a does not lie within m, nothing is added
+added_none : {a m : ℕ} {flag : Bool} (b : ℕ) → Decides (Within a m) flag → flag ≡ false → added a b m ≡ m
+added_none {m = m} b d e = sym (added_by b d) ∙ ap (λ (f : Bool). cond f (bit_or b m) m) e
+
 -- m after the first i pairs
 unfoldable pub passed : List ℕ → List ℕ → ℕ → ℕ → ℕ
 passed ls rs zero m = m
@@ -110,6 +114,13 @@ module _ {ls rs : List ℕ} {set : ℕ} where
         let l = front ls w.at (sym e ∙ w.lefts_left) in
         let r = front rs w.at (sym f ∙ w.rights_left) in
         record { at = w.at + 1; bound = omega (arith, l.below); lefts_left = l.rest; rights_left = r.rest; mask = rw (add-one, l.here, r.here, w.mask) refl }
+
+    -- past a pair of which neither side lies within m
+    pub walked_past : {lefts' rights' : List ℕ} {a b : ℕ} {left right : Bool} → lefts ≡ a ∷ lefts' → rights ≡ b ∷ rights'
+        → Decides (Within a m) left → left ≡ false → Decides (Within b m) right → right ≡ false → Walked ls rs set lefts' rights' m
+    walked_past {a = a} {b} e f d n d' n' =
+        let stays : added b a (added a b m) ≡ m = ap (added b a) (added_none b d n) ∙ added_none a d' n' in
+        rw stays at (walked_next e f)
 
     pub walked_grown : Grows (Listed ls rs) set m
     walked_grown = rw w.mask (passed_first ls rs set w.at w.bound).grown.keeps

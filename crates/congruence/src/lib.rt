@@ -33,17 +33,23 @@ fn all_fit(masks: &[u64])
 impl Pairs<'_> {
     ghost use Rattle.congruence.specs.Lent.{listed_in};
 
-    // One pass over the listed pairs: where one side of a pair lies within the set, the other is added. It ends once the goal lies within.
+    // One pass over the listed pairs: where one side of a pair lies within the set, the other is added. It ends once the goal lies within,
+    // and most pairs add nothing: the goal is looked at where one has, and at the start.
     pub fn pass(&self, set: u64, goal: u64) -> u64
         ensures { Passes (listed_in self.now) set goal result }
     {
+        if sets::within(goal, set) {
+            return set;
+        }
         let mut mask = set;
         for (a, b) in self.lefts.iter().zip(self.rights) {
-            if sets::within(goal, mask) {
-                return mask;
+            if sets::within(*a, mask) || sets::within(*b, mask) {
+                mask = added(*a, *b, mask);
+                mask = added(*b, *a, mask);
+                if sets::within(goal, mask) {
+                    return mask;
+                }
             }
-            mask = added(*a, *b, mask);
-            mask = added(*b, *a, mask);
         }
         mask
     }

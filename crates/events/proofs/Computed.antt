@@ -1,11 +1,11 @@
 -- A rule at every number below a bound, by one test that is computed; and lists of bytes compared by a test. Assumes nothing.
-use mathlib.Core.Path.{◌≡◌}
+use mathlib.Core.Path.{◌≡◌, refl}
 use mathlib.Core.Bool.{Bool, true, false, ◌&&◌}
 use mathlib.Core.List.{List, [], ◌∷◌}
 use Prim.Native.Nat.{ℕ, zero, suc, ◌<◌}
 use native.Mathlib.Decide.{dec_lt}
 use native.Mathlib.Omega.{arith}
-use lib.Dec.{T, eqb, eqb_refl}
+use lib.Dec.{T, eqb, eqb→eq, eqb_refl}
 
 pub both : (a b : Bool) → T (a && b) → T a × T b
 both true true t = (tt, tt)
@@ -31,6 +31,16 @@ same [] [] = true
 same [] (y ∷ ys) = false
 same (x ∷ xs) [] = false
 same (x ∷ xs) (y ∷ ys) = eqb x y && same xs ys
+
+pub same_equal : (xs ys : List ℕ) → T (same xs ys) → xs ≡ ys
+same_equal [] [] t = refl
+same_equal [] (y ∷ ys) t = absurd t
+same_equal (x ∷ xs) [] t = absurd t
+same_equal (x ∷ xs) (y ∷ ys) t =
+    let p = both (eqb x y) (same xs ys) t in
+    let e : x ≡ y = eqb→eq x y p.0 in
+    let r : xs ≡ ys = same_equal xs ys p.1 in
+    cc
 
 pub same_self : (xs : List ℕ) → T (same xs xs)
 same_self [] = tt

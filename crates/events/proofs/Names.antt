@@ -1,18 +1,19 @@
 -- What the names are: none is empty, none is longer than nine bytes, and no two of letters below 32 are alike. Assumes nothing.
-use mathlib.Core.Path.{◌≡◌, refl, sym, ap}
+use mathlib.Core.Path.{◌≡◌, refl, sym, ap, ◌∙◌}
 use mathlib.Core.Bool.{Bool, not, ◌&&◌}
-use mathlib.Core.List.{List, ◌++◌, map}
+use mathlib.Core.List.{List, [], ◌++◌, map}
 use Prim.Native.Nat.{ℕ, ◌<◌, ◌≤◌}
 use native.Mathlib.Decide.{dec_lt}
 use native.Mathlib.Omega.{arith}
 use lib.Dec.{T, leb, leb→le, T_not}
-use lib.ListN.{length, get_or, get_or-eq_default, get_or-map}
+use lib.ListN.{length, take, get_or, get_or-eq_default, get_or-map}
 use Rattle.std.specs.Borrow.{Bor}
 use Rattle.std.proofs.lemmas.List.{get_or_default}
 use Rattle.lent.proofs.Filling.{Splits}
 use Rattle.text.specs.Text.{word, digits, decimal}
 use Rattle.events.specs.Events.{names, event_name}
-use Rattle.events.proofs.Computed.{both, every, every_at, same, same_self}
+use Rattle.events.specs.declared.TheConstants.{NAMES}
+use Rattle.events.proofs.Computed.{both, every, every_at, same, same_equal, same_self}
 
 pub name_high : (a : ℕ) → 12 ≤ a → event_name a ≡ word "E" ++ decimal a
 unfolding event_name names
@@ -25,13 +26,34 @@ name_numbered a h = record { parts = name_high a h }
 pub bytes_at : (table : List (Bor (List ℕ))) (i : ℕ) (d : Bor (List ℕ)) → (get_or table i d).now ≡ get_or (map (λ (x : Bor (List ℕ)). x.now) table) i d.now
 bytes_at table i d = sym (get_or-map (λ (x : Bor (List ℕ)). x.now) table i d)
 
--- each of the twelve stands at its letter, in its length
-pub row_is : (a : ℕ) (d : List ℕ) → a < 12 → get_or names a d ≡ event_name a
-unfolding event_name names
-row_is a d h = get_or_default names a d (word "E" ++ decimal a) h
+-- what the slices of the code's table hold, by letter
+abbrev pub table : List (List ℕ)
+table = map (λ x. x.now) NAMES
 
-pub length_is : (a : ℕ) (d : List ℕ) → a < 12 → length (get_or names a d) ≡ length (event_name a)
+-- its first twelve are the scope's list
+pub table_is : take 12 table ≡ names
+unfolding names
+table_is = refl
+
+-- each of its rows is its letter's name, by one test of all
+row_right : ℕ → Bool
+row_right a = same (get_or table a []) (event_name a)
+
+rows_right : T (every row_right (length table))
+unfolding row_right event_name names decimal digits
+rows_right = tt
+
+-- each stands at its letter of the code's table, in its length
+pub row_is : (a : ℕ) (d : List ℕ) → a < length table → get_or table a d ≡ event_name a
+unfolding row_right
+row_is a d h = get_or_default table a d [] h ∙ same_equal (get_or table a []) (event_name a) (every_at row_right (length table) rows_right a h)
+
+pub length_is : (a : ℕ) (d : List ℕ) → a < length table → length (get_or table a d) ≡ length (event_name a)
 length_is a d h = ap length (row_is a d h)
+
+-- the row at a place that is a letter's is the letter's name
+pub row_found : {row : List ℕ} {place : ℕ} (letter : ℕ) (d : List ℕ) → row ≡ get_or table place d → place < length table → place ≡ letter → row ≡ event_name letter
+row_found {place = place} letter d e h s = e ∙ row_is place d h ∙ ap event_name s
 
 -- a name has one to nine bytes
 fair : ℕ → Bool

@@ -1,13 +1,14 @@
 -- The reader's loop: what the groups read so far are worth stands in front of what is still to be read.
 use Prim.Native.Nat.{ℕ, suc, ◌+◌, ◌*◌, ◌-◌, ◌^◌, ◌<◌, ◌≤◌}
 use mathlib.Core.List.{List, ◌∷◌}
-use mathlib.Core.Path.{◌≡◌, refl, ap, ◌∙◌}
+use mathlib.Core.Path.{◌≡◌, refl, sym, ap, ◌∙◌}
 use native.Mathlib.Decide.{dec_lt}
 use native.Mathlib.Nat.{pow-suc, pow-le-pow_right, mul-le-mul_right, add-mul, mul_assoc, mul_comm, zero-lt-suc}
 use native.Mathlib.Numerals.{add-one}
 use native.Mathlib.Omega.{arith}
 use lib.ListN.{length, drop, get_or, drop_of_length-le}
 use lib.Seq.{drop-cons}
+use Rattle.std.proofs.lemmas.List.{length-drop, get_or-drop}
 use Rattle.verdict.specs.Verdict.Verdict.{Fine, Against}
 use Rattle.numbers.specs.Numbers.{byte_test, Form, whole, faulty, more, groups, answered, read_at}
 use Rattle.numbers.proofs.Groups.{fine_tenth, fine_more, groups_none, groups_bad, groups_last, groups_more}
@@ -98,3 +99,26 @@ module _ {rest : List ℕ} {value weight i : ℕ} (g : Going rest value weight i
     more_fits l u =
         let q : (b - 128) * weight ≤ 127 * weight = mul-le-mul_right weight (omega arith) in
         omega (arith, weight_fits l, g.small)
+
+-- ---- where the code's loop stands: the bytes from at up to place are read
+
+pub record Reached (bytes : List ℕ) (at place value weight : ℕ) : Type 0 where
+  pub behind : at ≤ place
+  pub going : Going (drop at bytes) value weight (place - at)
+
+module _ {bytes : List ℕ} {at place value weight : ℕ} (r : Reached bytes at place value weight) where
+  pub reached_below : place < length bytes → place - at < length (drop at bytes)
+  reached_below h = omega (arith, length-drop at bytes, r.behind)
+
+  pub reached_byte : {b : ℕ} → b ≡ get_or bytes place 0 → b ≡ get_or (drop at bytes) (place - at) 0
+  reached_byte e =
+      let there : at + (place - at) ≡ place = omega (arith, r.behind) in
+      e ∙ sym (get_or-drop at bytes (place - at) 0 ∙ ap (λ (j : ℕ). get_or bytes j 0) there)
+
+  pub reached_end : length bytes ≤ place → length (drop at bytes) ≤ place - at
+  reached_end h = omega (arith, length-drop at bytes, r.behind)
+
+  pub reached_next : {value' weight' : ℕ} → Going (drop at bytes) value' weight' (place - at + 1) → Reached bytes at (place + 1) value' weight'
+  reached_next g =
+      let on : place - at + 1 ≡ place + 1 - at = omega (arith, r.behind) in
+      record { behind = omega (arith, r.behind); going = rw on at g }

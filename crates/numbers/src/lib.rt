@@ -29,7 +29,9 @@ pub struct Placed {
 fn byte_test(i: usize, b: u64) -> Result<(), Refusal>
     ensures { said result ≡ byte_test i b }
 {
-    need(i == 0 || b != 0, Refusal::Padded)?;
+    if b == 0 {
+        return need(i == 0, Refusal::Padded);
+    }
     need(i < 9 || b == 1, Refusal::TooBig)
 }
 
@@ -39,9 +41,9 @@ pub fn read(bytes: &[u8], at: usize) -> Result<Taken, Fault>
 {
     let mut value: u64 = 0;
     let mut weight: u64 = 1;
-    let rest = bytes.get(at..).unwrap_or(&[]);
-    for (i, byte) in rest.iter().enumerate() {
-        let b = u64::from(*byte);
+    for place in at..bytes.len() {
+        let i = place - at;
+        let b = u64::from(bytes[place]);
         byte_test(i, b).map_err(|why| Fault { why, place: at })?;
         if b < 128 {
             return Ok(Taken {

@@ -6,6 +6,8 @@ use mathlib.Core.List.{List, [], ◌∷◌, Memᴰ}
 use Prim.Native.Nat.{ℕ, ◌<◌}
 use native.Mathlib.Omega.{arith}
 use borrow.Author.Tests.{ltb-true, lt-ltb}
+use Rattle.std.specs.Prelude.{Result, Ok, Err}
+use Rattle.verdict.specs.declared.Refusal.{Refusal}
 use Rattle.verdict.specs.Verdict.{Verdict}
 use Rattle.verdict.specs.Verdict.Verdict.{Fine, Against}
 use Rattle.verdict.specs.Tests.{each, Among}
@@ -15,10 +17,11 @@ use Rattle.verdict.proofs.Ordered.{apart, one_number, need_holds, need_fine, ord
 use Rattle.verdict.proofs.Each.{each_fine}
 use Rattle.verdict.proofs.Numbered.{among_need, among_each, among_from}
 use Rattle.verdict.proofs.Lines.{one_line, no_lines, lines_then, same_number, lines_among}
+use Rattle.verdict.proofs.Refusals.{one_refusal, number_high}
 use Rattle.pattern.specs.Pattern.{Pattern}
 use Rattle.pattern.specs.Refusals.{shape_lines}
 use Rattle.pattern.specs.Language.{accepts, Over}
-use Rattle.pattern.specs.Judge.{letter_test, judge_test, by_language, or_refused, judged, number_of, Judgeable, judge_lines, HonestJudge}
+use Rattle.pattern.specs.Judge.{letter_test, judge_test, by_language, or_refused, judged, told, number_of, Judgeable, judge_lines, HonestJudge}
 use Rattle.pattern.specs.Judge.{Judged}
 use Rattle.pattern.specs.Judge.Judged.{Refused}
 use Rattle.pattern.proofs.Validity.{set_fine, pattern_valid}
@@ -46,9 +49,21 @@ letters_line k word = one_line (among_each (15 ∷ []) (letter_test k) (among_le
 
 -- ---- what judging answers
 
--- judging is determined: its contract is an equation
-pub judge_determined : (P : Pattern) (set : ℕ) (sequence : List ℕ) {r s : Judged} → r ≡ judged P set sequence → s ≡ judged P set sequence → r ≡ s
-judge_determined P set sequence p q = p ∙ sym q
+-- what the code's Result tells, it alone tells
+told_one : (r s : Result Bool Refusal) → told r ≡ told s → r ≡ s
+told_one (Ok true) (Ok true) e = refl
+told_one (Ok true) (Ok false) e = absurd (omega (arith, ap number_of e))
+told_one (Ok false) (Ok true) e = absurd (omega (arith, ap number_of e))
+told_one (Ok false) (Ok false) e = refl
+told_one (Ok true) (Err why) e = absurd (omega (arith, ap number_of e, number_high why))
+told_one (Ok false) (Err why) e = absurd (omega (arith, ap number_of e, number_high why))
+told_one (Err why) (Ok true) e = absurd (omega (arith, ap number_of e, number_high why))
+told_one (Err why) (Ok false) e = absurd (omega (arith, ap number_of e, number_high why))
+told_one (Err a) (Err b) e = ap Err (one_refusal (ap number_of e))
+
+-- judging is determined: two results that its contract allows are equal
+pub judge_determined : (P : Pattern) (set : ℕ) (sequence : List ℕ) {r s : Result Bool Refusal} → told r ≡ judged P set sequence → told s ≡ judged P set sequence → r ≡ s
+judge_determined P set sequence {r} {s} p q = told_one r s (p ∙ sym q)
 
 module _ (P : Pattern) (set : ℕ) (sequence : List ℕ) where
   pub judged_refused : {w : ℕ} → judge_test P set sequence ≡ Against w → judged P set sequence ≡ Refused w

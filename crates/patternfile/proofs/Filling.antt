@@ -1,7 +1,7 @@
 -- The second pass: the numbers that the first pass judged go into the rows.
 use Prim.Native.Nat.{ℕ, ◌+◌, ◌*◌, ◌-◌, ◌<◌, ◌≤◌}
 use mathlib.Core.List.{List, [], ◌∷◌, ◌++◌, append-nil}
-use mathlib.Core.Path.{◌≡◌, refl, sym, ap, ◌∙◌}
+use mathlib.Core.Path.{◌≡◌, refl, sym, ap, subst, ◌∙◌}
 use native.Mathlib.Omega.{arith}
 use lib.ListN.{length, take, drop, set, length-set, drop_of_length-le}
 use lib.Seq.{length-take-le}
@@ -134,6 +134,13 @@ filled_front {s} {at} {count} {old} {new} h f =
           ∙ ap (λ (n : ℕ). lay vs (take n old) ++ drop n old) (sym l)
           ∙ lay_front vs old (omega arith);
     }
+
+-- the same, where the front was cut off at as many
+pub filled_part : {s : List ℕ} {at count m : ℕ} {old new : List ℕ} → count ≤ length old → m ≡ count → Filled s at (length (take m old)) (take m old) new
+    → Filled s at count old (new ++ drop m old)
+filled_part {s} {at} {count} {m} {old} {new} h e f =
+    let l : m ≤ length old = omega arith in
+    subst (λ (n : ℕ). Filled s at n old (new ++ drop m old)) e (filled_front l (rw (length-take-le m old l) at f))
 
 -- ---- the whole reader
 

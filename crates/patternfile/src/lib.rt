@@ -63,7 +63,8 @@ fn read_set(bytes: &[u8], at: usize, states: usize) -> Result<Placed, Fault>
     numbers::read_held(bytes, at, |v| pattern::set_test(states, v))
 }
 
-// Judges so many sets from a place on, and returns the place after them.
+// Judges so many sets from a place on, and returns the place after them. In its caller's frame: the stack that a read needs is said beside the export.
+#[inline(always)]
 pub fn pass_sets(bytes: &[u8], at: usize, states: usize, count: usize) -> Result<usize, Fault>
     ensures { Passes (reading (many count (set_test states) ended) bytes.now at) result }
 {

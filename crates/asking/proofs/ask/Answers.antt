@@ -20,13 +20,13 @@ pattern-requires c =
 pub returns-in_err-compare : goal.returns-in_err-compare
 returns-in_err-compare c =
     absurd
-    (accepted_compared (record { bytes = as_bytes c.type_inv.bytes; size = c.requires.rows_fit; done = c.in_ok-file.ensures }) c.pattern.ensures c.requires.roomy
+    (accepted_compared (record { bytes = as_bytes c.type_inv.bytes; size = c.requires.rows_fit; done = c.in_ok-file.ensures }) c.pattern.ensures (omega arith) c.requires.roomy
     c.in_err-compare.ensures.compared)
 
 pub returns : goal.returns
 returns c = record {
   answers =
-      accepted_answers (record { bytes = as_bytes c.type_inv.bytes; size = c.requires.rows_fit; done = c.in_ok-file.ensures }) c.pattern.ensures c.requires.roomy
+      accepted_answers (record { bytes = as_bytes c.type_inv.bytes; size = c.requires.rows_fit; done = c.in_ok-file.ensures }) c.pattern.ensures (omega arith) c.requires.roomy
       c.in_ok-compare.ensures.compared;
   same_tables = c.in_ok-compare.ensures.same_tables;
 }

@@ -1,5 +1,5 @@
 -- `evidencefile::judge_pairs` goes through the format behind the pattern's numbers.
-use Rattle.std.proofs.Common.{rules, ◌≡◌, Err, sym, ◌∙◌, arith}
+use Rattle.std.proofs.Common.{rules, ◌≡◌, ℕ, Err, sym, ◌∙◌, arith}
 use Rattle.verdict.specs.Verdict.Verdict.{Fine}
 use Rattle.numbers.proofs.Faulted.{faulted}
 use Rattle.evidencefile.specs.EvidenceFile.{pair_room_test}
@@ -16,14 +16,14 @@ returns-in_err-count c =
 pub returns-in_err-map_err : goal.returns-in_err-map_err
 returns-in_err-map_err c =
     let e : c.from_residual-in_err-map_err.result ≡ Err c.in_err-map_err.field-0.0 = search rules in
-    let bad = (faulted c.in_ok-count.count.next c.pair_room_test.result c.map_err.ensures.cases (λ why f h. search rules)).err c.in_err-map_err.field-0.0 c.in_err-map_err.was in
+    let bad = (faulted c.in_ok-count.count.next c.pair_room_test.result c.map_err.ensures.cases (λ why f h. let made : (place : ℕ) × (f ≡ record { why = why; place = place }) = search rules in made.1)).err c.in_err-map_err.field-0.0 c.in_err-map_err.was in
     rw (e, bad.1) (no_room c.args.states c.args.lefts c.args.rights c.args.bytes.now c.args.at c.in_ok-count.ensures (sym c.pair_room_test.ensures ∙ bad.0))
 
 pub overflow_mul-pairs : goal.overflow_mul-pairs
 overflow_mul-pairs c = omega (arith, few_pairs c.args.states c.args.lefts c.args.rights c.args.bytes.now c.args.at c.in_ok-count.ensures)
 
 roomy : (c : In_ok-map_err) → pair_room_test c.args.lefts c.args.rights c.in_ok-count.count.value ≡ Fine
-roomy c = sym c.pair_room_test.ensures ∙ (faulted c.in_ok-count.count.next c.pair_room_test.result c.map_err.ensures.cases (λ why f h. search rules)).ok c.in_ok-map_err.was
+roomy c = sym c.pair_room_test.ensures ∙ (faulted c.in_ok-count.count.next c.pair_room_test.result c.map_err.ensures.cases (λ why f h. let made : (place : ℕ) × (f ≡ record { why = why; place = place }) = search rules in made.1)).ok c.in_ok-map_err.was
 
 pub returns-in_err-end : goal.returns-in_err-end
 returns-in_err-end c =

@@ -1,6 +1,6 @@
--- `numbers::read` finds what stands at the place: `Going` follows the loop.
-use Rattle.numbers.proofs.ReaderLoop.{Going}
+-- `numbers::read` finds what stands at the place: `Reached` follows the loop.
+use Rattle.numbers.proofs.ReaderLoop.{Reached}
 use Rattle.numbers.proofs.read.Given as goal
 
-abbrev pub invariant-loop-i : goal.invariant-loop-i
-invariant-loop-i l = Going l.rest l.value l.weight l.i
+abbrev pub invariant-loop-place : goal.invariant-loop-place
+invariant-loop-place l = Reached l.bytes l.at l.place l.value l.weight

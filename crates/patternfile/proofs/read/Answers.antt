@@ -3,7 +3,7 @@ use Rattle.std.proofs.Common.{rules, ◌≡◌, ◌+◌, ℕ, Err, ap, sym, arit
 use lib.Seq.{length-take-le}
 use Rattle.numbers.specs.Numbers.{AreBytes}
 use Rattle.numbers.proofs.TenBytes.{encode_ten}
-use Rattle.patternfile.proofs.Filling.{reads_stopped, reads_tail, reads_room, reads_done, filled_front}
+use Rattle.patternfile.proofs.Filling.{reads_stopped, reads_tail, reads_room, reads_done, filled_part}
 use Rattle.patternfile.proofs.read.Goals as goal
 
 pub returns-in_err-part : goal.returns-in_err-part
@@ -28,16 +28,16 @@ overflow_mul-found c =
 pub slice_bounds-fill-end : goal.slice_bounds-fill-end
 slice_bounds-fill-end c =
     let are : AreBytes c.args.bytes.now = record { each = λ i. omega (arith, c.type_inv.bytes i) } in
-    reads_room c.args.bytes.now c.args.rows.now c.in_ok-part.part c.in_ok-part.ensures are
+    omega (arith, reads_room c.args.bytes.now c.args.rows.now c.in_ok-part.part c.in_ok-part.ensures are)
 
 pub slice_bounds-fill-end-2 : goal.slice_bounds-fill-end-2
 slice_bounds-fill-end-2 c =
     let are : AreBytes c.args.bytes.now = record { each = λ i. omega (arith, c.type_inv.bytes i) } in
-    sym (length-take-le _ c.args.rows.now (reads_room c.args.bytes.now c.args.rows.now c.in_ok-part.part c.in_ok-part.ensures are))
+    sym (length-take-le _ c.args.rows.now (omega (arith, reads_room c.args.bytes.now c.args.rows.now c.in_ok-part.part c.in_ok-part.ensures are)))
 
 pub returns : goal.returns
 returns c =
     let are : AreBytes c.args.bytes.now = record { each = λ i. omega (arith, c.type_inv.bytes i) } in
     let room = reads_room c.args.bytes.now c.args.rows.now c.in_ok-part.part c.in_ok-part.ensures are in
     reads_done c.args.bytes.now c.args.rows.now c.in_ok-part.part c.in_ok-part.ensures are (ap (λ (m : ℕ). 2 + m) c.size-at.ensures) c.in_ok-no_tail.ensures
-    (filled_front room (rw (length-take-le _ c.args.rows.now room) at c.fill.ensures))
+    (filled_part room (omega arith) c.fill.ensures)

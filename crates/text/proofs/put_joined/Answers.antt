@@ -1,6 +1,7 @@
 -- `text::put_joined` puts the first word, and then the others with a space in front of each.
 use Rattle.std.proofs.Common.{arith}
 use Rattle.lent.proofs.Filling.{puts_none, puts_as, first_fits, second_fits, both_put}
+use Rattle.text.specs.Text.{spaced}
 use Rattle.text.proofs.Lines.{joined_none, joined_some}
 use Rattle.text.proofs.put_joined.Goals as goal
 
@@ -8,7 +9,10 @@ pub put-requires : goal.put-requires
 put-requires g c = first_fits c.requires (joined_some g.W.Words.word_of c.in-Some.ensures.cases.0)
 
 pub put_spaced-requires : goal.put_spaced-requires
-put_spaced-requires g c = second_fits c.requires (joined_some g.W.Words.word_of c.in-Some.ensures.cases.0) c.put.ensures
+unfolding spaced
+put_spaced-requires g c =
+    let room = second_fits c.requires (joined_some g.W.Words.word_of c.in-Some.ensures.cases.0) c.put.ensures in
+    record { fits = omega (arith, room.fits) }
 
 pub returns-in-Some : goal.returns-in-Some
 returns-in-Some g c = both_put (joined_some g.W.Words.word_of c.in-Some.ensures.cases.0) c.put.ensures c.put_spaced.ensures

@@ -1,7 +1,13 @@
 -- `pattern::Pattern::judge` answers what the definition of judging answers.
 use Rattle.std.proofs.Common.{◌≡◌, rules, Err}
 use mathlib.Core.Path.{sym}
+use mathlib.Core.List.{List}
+use mathlib.Core.Path.{refl, ◌∙◌}
+use Prim.Native.Nat.{ℕ}
+use Rattle.verdict.specs.Verdict.Verdict.{Fine}
+use Rattle.pattern.specs.Pattern.{Pattern}
 use Rattle.pattern.specs.Language.{accepts}
+use Rattle.pattern.specs.Judge.{Judged, judge_test, judged, by_language}
 use Rattle.pattern.proofs.Judging.{judged_refused, judged_by_language, judge_fine}
 use Rattle.pattern.proofs.Pattern.judge.Goals as goal
 
@@ -19,6 +25,10 @@ invariant_of-reached-clause-rows_len c = ((judge_fine _ _ _).0 (sym c.in_ok-judg
 pub reached-end-requires : goal.reached-end-requires
 reached-end-requires c = ((judge_fine _ _ _).0 (sym c.in_ok-judge_test.ensures)).letters_below
 
+-- what is told by the language is what judging answers
+told_as : (P : Pattern) (set : ℕ) (sequence : List ℕ) {j : Judged} → judge_test P set sequence ≡ Fine → j ≡ by_language (accepts P set sequence) → j ≡ judged P set sequence
+told_as P set sequence e h = h ∙ sym (judged_by_language P set sequence e refl)
+
 pub returns : goal.returns
 unfolding accepts
-returns c = sym (judged_by_language _ _ _ (sym c.in_ok-judge_test.ensures) (rw (← c.reached-end.ensures) (sym c.meets.ensures)))
+returns c = told_as _ _ _ (sym c.in_ok-judge_test.ensures) (cc)

@@ -1,5 +1,8 @@
 -- `records::compares::compare_in` leaves in the list what the comparison leaves in its tables, where that answers in the room asked for.
-use Rattle.std.proofs.Common.{◌≡◌, refl, rules, Err, arith}
+use Rattle.std.proofs.Common.{◌≡◌, refl, rules, Ok, Err, arith}
+use Rattle.walk.proofs.Columns.{fit_less}
+use Rattle.records.specs.Answers.{compare_answer}
+use Rattle.records.specs.Inner.{columns_lent, filled}
 use Rattle.records.proofs.Finding.{finding, refused_tried, tried_word}
 use Rattle.records.proofs.compares.compare_in.Goals as goal
 use Rattle.records.proofs.compares.compare_in.Goals.{else-room-via-then-room+else-is_full, else-room-via-else-room}
@@ -18,16 +21,16 @@ returns-then-is_full g c =
     })
 
 pub fill-requires-clause-columns_fit : goal.fill-requires-clause-columns_fit
-fill-requires-clause-columns_fit g c = rw c.kept.ensures (finding c.in_ok-answer.ensures.compared c.asked-asks.ensures).fits
+fill-requires-clause-columns_fit g c = fit_less (omega arith) (finding c.in_ok-answer.ensures.compared c.asked-asks.ensures).fits
 
 pub fill-requires-clause-list_fits : goal.fill-requires-clause-list_fits
-fill-requires-clause-list_fits g c = rw c.kept.ensures (finding c.in_ok-answer.ensures.compared c.asked-asks.ensures).within
+fill-requires-clause-list_fits g c = omega (arith, (finding c.in_ok-answer.ensures.compared c.asked-asks.ensures).within)
 
 pub returns : goal.returns
 returns g c =
     let found = finding c.in_ok-answer.ensures.compared c.asked-asks.ensures in
     tried_word {word = c.compare.new.tables.sequence.now} (search rules) (record {
-      answered = λ n. rw (c.fill.ensures, c.kept.ensures) (found.answered n);
+      answered = λ n. let written : c.fill.new.records ≡ filled (columns_lent c.compare.new.tables) c.args.records.now (compare_answer (Ok c.in_ok-answer.answer)).kept = search rules in rw written (found.answered n);
       full = λ h z.
           absurd (elim c.else-room.branch [ else-room-via-then-room+else-is_full w ↦ w.is_full.ensures.complete w.if-is_full.false z | else-room-via-else-room w ↦ omega (arith, w.if-room.false, h) ]);
     })
