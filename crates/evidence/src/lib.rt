@@ -59,11 +59,12 @@ fn holds(pattern: &Shaped, pairs: &Pairs, a: u64, b: u64) -> bool
 fn by_pairs(pattern: &Shaped, pairs: &Pairs) -> Answer
     ensures { ByPairs (pattern_in pattern.now.pattern) pairs.now.lefts.now pairs.now.rights.now result }
 {
-    let fails = |(a, b): (&u64, &u64)| !holds(pattern, pairs, *a, *b);
-    match pairs.lefts.iter().zip(pairs.rights).position(fails) {
-        Some(place) => Answer::NotProved(place),
-        None => Answer::Proved,
+    for place in 0..pairs.lefts.len() {
+        if !holds(pattern, pairs, pairs.lefts[place], pairs.rights[place]) {
+            return Answer::NotProved(place);
+        }
     }
+    Answer::Proved
 }
 
 impl Offer<'_> {

@@ -26,8 +26,9 @@ impl Page<'_> {
         requires { HasRoomFor self.old bytes.now }
         ensures { Puts self.old bytes.now self.new }
     {
-        for byte in bytes {
-            self.put_byte(*byte);
+        for (i, byte) in bytes.iter().enumerate() {
+            self.out[self.at + i] = *byte;
         }
+        self.at += bytes.len();
     }
 }
